@@ -6,3 +6,9 @@ pub mod Assignments
 pub mod Search
 pub mod Planner
 pub mod PlanCheck
+pub mod Calls
+pub mod Numbers
+pub mod Listing
+pub mod Rounds
+pub mod Starred
+pub mod Further
