@@ -1,5 +1,5 @@
 -- The worked rounds hold of the definitions, by computation. Assumes nothing.
-use mathlib.Core.Path.{_≡_, refl, sym, subst}
+use mathlib.Core.Path.{refl, sym, subst}
 use mathlib.Core.List.{List, [], _∷_, List·Memᴰ as Mem, List·Memᴰ·head as here, List·Memᴰ·tail as there, List·Memᴰ·not-nil as not-nil}
 use Rattle.deck.specs.Sheet.{words, goodHeader, chained, goalsSize, goodDirectory, goodGrid, goodStarts, goodGoals, goodLastGoals, cause}
 use Rattle.deck.specs.Paths.{oneApart, beside, mayStep, steps, walks, visit, left, finish, serves, keeps, pathsUnder, leastPath}

@@ -3,8 +3,8 @@
 use Prim.Native.Nat.{ℕ, zero, suc, _+_, _-_, _*_, _/_, _%_, _≤_, _<_}
 use mathlib.Core.Path.{_≡_}
 use mathlib.Core.Logic.{_≢_}
-use mathlib.Core.Bool.{Bool, _&&_, cond}
-use mathlib.Core.List.{List, [], _∷_, _++_, map}
+use mathlib.Core.Bool.{Bool, _&&_}
+use mathlib.Core.List.{List, [], _++_, map}
 use mathlib.Core.Option.{Option, none, some}
 use lib.ListN.{length, getD, drop, replicate}
 use lib.IntN.{ℤ, pos}
@@ -30,7 +30,6 @@ use Rattle.deck.specs.declared.AssignmentKind.the-variants.{Least, NoAss
 use Rattle.deck.specs.declared.AssignmentAnswer.{AssignmentAnswer}
 use Rattle.deck.specs.declared.CollisionAnswer.{CollisionAnswer}
 use Rattle.deck.specs.declared.CollisionAnswer.the-variants.{Found as CollisionFound, NoCollision, Refused as CollisionRefused}
-use Rattle.deck.specs.declared.SearchKind.{SearchKind}
 use Rattle.deck.specs.declared.SearchKind.the-variants.{Plan, NoPlan, Spent, Refused as SearchRefused}
 use Rattle.deck.specs.declared.SearchAnswer.{SearchAnswer}
 use Rattle.deck.specs.declared.CheckAnswer.{CheckAnswer}
@@ -46,6 +45,14 @@ noTasks = replicate 12 255
 -- "at least 512 × N + (H + 1) × w × h × (K + 1) + 4096 words of 32 bits"
 unfoldable pub workspaceFor : Sheet → ℕ
 workspaceFor d = 512 * d .limit + suc (d .horizon) * area d * suc (mostGoals d) + 4096
+
+-- "workspace short"
+abbrev pub workspaceCause : Sheet → ℕ → ℕ
+workspaceCause d work = unless (leb (workspaceFor d) work) 10
+
+-- "output under .. words"
+abbrev pub outputCause : ℕ → ℕ → ℕ
+outputCause words out = unless (leb words out) 11
 
 -- the words of a plan's paths, m × (H + 1)
 abbrev pub planWords : Sheet → ℕ
@@ -125,8 +132,8 @@ pathCause s i j work out rs =
     cause s
     orElse unless (ltb (i .0) (countOf s) && ltb (j .0) (countOf s)) 8
     orElse unless (goodRecords (read s) rs) 9
-    orElse unless (leb (workspaceFor (read s)) work) 10
-    orElse unless (leb (suc (horizonOf s)) out) 11
+    orElse workspaceCause (read s) work
+    orElse outputCause (suc (horizonOf s)) out
 
 unfoldable pub pathFound : Sheet → Task → Option (List ℕ) → PathAnswer
 pathFound d j none = NoPath
@@ -200,8 +207,8 @@ collisionCall m h ws = collisionFor (collisionCause m h ws) m h ws
 unfoldable pub searchCause : List ℕ → ℕ → ℕ → ℕ
 searchCause s work out =
     cause s
-    orElse unless (leb (workspaceFor (read s)) work) 10
-    orElse unless (leb (planWords (read s)) out) 11
+    orElse workspaceCause (read s) work
+    orElse outputCause (planWords (read s)) out
 
 -- "kind, task list of 12 (255 .. throughout unless a plan), flowtime (0 unless plan), nodes made, bound (flowtime for a plan, 0 for none)"
 unfoldable pub searchFound : Answer (List ℕ) → SearchAnswer

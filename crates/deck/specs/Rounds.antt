@@ -5,7 +5,7 @@ use mathlib.Core.Path.{_≡_}
 use mathlib.Core.List.{List, [], _∷_, _++_, map}
 use lib.ListN.{length, replicate}
 use Rattle.deck.specs.Lists.{below, each, flat}
-use Rattle.deck.specs.Sheet.{Stretch, read, carrier, task, cause}
+use Rattle.deck.specs.Sheet.{read, carrier, task, cause}
 use Rattle.deck.specs.Calls.{taskList, noTasks, workspaceFor, planWords, goalsCall, pathCause, pathAnswerFor, pathOutputFor, assignmentCause, leastFor, assignmentKind, assignmentTasks, collisionCall, searchAnswer, searchOutput, checkCall}
 use Rattle.deck.specs.Numbers.{pathNumbers, assignmentNumbers, collisionNumbers, searchNumbers, checkNumbers}
 use Rattle.deck.specs.Listing.{listing}

@@ -1,2 +1,15 @@
 pub mod Tests
 pub mod Lists
+pub mod ListTests
+pub mod Before
+pub mod Walks
+pub mod Finish
+pub mod Visits
+pub mod Paths
+pub mod LeastPath
+pub mod Collisions
+pub mod InOrder
+pub mod Assignments
+pub mod PlanCheck
+pub mod Fuel
+pub mod Limit

@@ -1,16 +1,17 @@
 -- Laws of the lists that the definitions are made of: what stands in them, and in what order. Assumes nothing.
-use Prim.Native.Nat.{ℕ, zero, suc, _+_, _≤_, _<_}
+use Prim.Native.Nat.{ℕ, zero, suc, _+_, _*_, _≤_, _<_}
 use mathlib.Core.Path.{_≡_, refl, sym, ap, subst}
 use mathlib.Core.Logic.{_↔_, _⊎_, inl, inr, ⊎-elim}
-use mathlib.Core.Bool.{Bool, true, false, cond, _&&_}
+use mathlib.Core.Bool.{Bool, true, false, cond}
 use mathlib.Core.List.{List, [], _∷_, _++_, map, List·Memᴰ as Mem, List·Memᴰ·head as here, List·Memᴰ·tail as there, List·Memᴰ·not-nil as not-nil, List·Memᴰ·cases-cons as cases-cons, List·Memᴰ·append-cases as cases-append, Memᴰ·append-left as in-left, Memᴰ·append-right as in-right}
 use mathlib.Core.Option.{Option, none, some}
-use native.Mathlib.Nat.{not-suc-le-zero, eq-or-lt-of-le, le-trans, le-refl, le-of-lt}
+use native.Mathlib.Nat.{not-suc-le-zero, eq-or-lt-of-le, le-trans, le-refl, le-of-lt, le-of-suc-le-suc, suc-mul}
 use native.Mathlib.Omega.{arith}
-use lib.ListN.{length, getD}
+use lib.ListN.{length, getD, List·getD-append}
+use lib.Seq.{getD-append-add}
 use lib.Dec.{T, leb}
 use borrow.Author.Tests.{leb-true, leb-false}
-use Rattle.deck.specs.Lists.{countFrom, below, all, select, each, takeLeast, pickLeast}
+use Rattle.deck.specs.Lists.{countFrom, below, select, each, takeLeast, pickLeast, headOf}
 
 module _ {A B : Type 0} where
   pub mem-map : (f : A → B) (l : List A) {y : B} → Mem y (map f l) → (x : A) × Mem x l × (y ≡ f x)
@@ -56,6 +57,10 @@ module _ {A : Type 0} (f : A → Bool) where
       go true k = there k
       go false k = k
 
+pub nil-of-none : {A : Type 0} (l : List A) → ((x : A) → ¬ Mem x l) → l ≡ []
+nil-of-none [] h = refl
+nil-of-none (x ∷ l) h = absurd (h x (here refl))
+
 pub mem-countFrom : (k n : ℕ) {x : ℕ} → Mem x (countFrom k n) → (k ≤ x) × (x < k + n)
 mem-countFrom k zero m = absurd (not-nil m)
 mem-countFrom k (suc n) (here e) = (omega arith, omega arith)
@@ -88,6 +93,17 @@ getD-tabulate f k zero i d h = absurd (not-suc-le-zero h)
 getD-tabulate f k (suc n) zero d h = let e : k ≡ k + 0 = omega arith in ap f e
 getD-tabulate f k (suc n) (suc i) d h = let e : suc k + i ≡ k + suc i = omega arith in rw (getD-tabulate f (suc k) n i d (omega arith)) (ap f e)
 
+-- the rows f x, all of length w, one after the other: the element j of row i
+pub each-at : {A B : Type 0} (f : A → List B) (w : ℕ) → ((x : A) → length (f x) ≡ w) → (l : List A) (c : A) (d : B)
+    → (i j : ℕ) → i < length l → j < w → getD (each f l) (i * w + j) d ≡ getD (f (getD l i c)) j d
+each-at f w s [] c d i j h k = absurd (not-suc-le-zero h)
+each-at f w s (x ∷ l) c d zero j h k =
+    let e : 0 * w + j ≡ j = omega arith in
+    rw e (List·getD-append (f x) (each f l) d j (omega (arith, s x)))
+each-at f w s (x ∷ l) c d (suc i) j h k =
+    let e : suc i * w + j ≡ length (f x) + (i * w + j) = omega (arith, s x, suc-mul i w) in
+    rw (e, getD-append-add (f x) (each f l) (i * w + j) d) (each-at f w s l c d i j (le-of-suc-le-suc h) k)
+
 module _ {A : Type 0} (R : A → A → Type 0) where
   -- each element stands in the relation R to each later one
   abbrev pub Sorted : List A → Type 0
@@ -108,6 +124,15 @@ module _ {A : Type 0} (R : A → A → Type 0) where
       go : (b : Bool) → Sorted (select f l) → Sorted (cond b (x ∷ select f l) (select f l))
       go true k = (λ y m. h .0 y (mem-select f l m .0), k)
       go false k = k
+
+  -- the head of a sorted list stands in the relation to each other element
+  abbrev pub Head : List A → Option A → Type 0
+  Head l none = l ≡ []
+  Head l (some x) = Mem x l × ((y : A) → Mem y l → (y ≡ x) ⊎ R x y)
+
+  pub head-first : (l : List A) → Sorted l → Head l (headOf l)
+  head-first [] h = refl
+  head-first (x ∷ l) h = (here refl, λ y m. ⊎-elim (λ e. inl e) (λ n. inr (h .0 y n)) (cases-cons m))
 
 -- f carries one order into another
 pub sorted-map : {A B : Type 0} (R : A → A → Type 0) (S : B → B → Type 0) (f : A → B) → ((x y : A) → R x y → S (f x) (f y))

@@ -1,13 +1,14 @@
 -- What a path, a finish, a collision, an assignment, a plan and a flowtime are, said with quantifiers and without the definitions
 -- that compute; and what the search has to answer (demand 3). A reader who believes this file and the sheet's accessors need
 -- not believe the definitions of paths, collisions, assignments, plan check or search. Assumes nothing.
-use Prim.Native.Nat.{ℕ, suc, _*_, _/_, _%_, _≤_, _<_}
+use Prim.Native.Nat.{ℕ, suc, _/_, _%_, _≤_, _<_}
 use mathlib.Core.Path.{_≡_}
 use mathlib.Core.Logic.{_≢_, _⊎_}
 use mathlib.Core.List.{List, [], _∷_, List·Memᴰ as Mem}
 use lib.ListN.{length, getD}
 use Rattle.deck.specs.Lists.{sum}
 use Rattle.deck.specs.Sheet.{Sheet, area, carrier, task, startOf, goalsOf, lastGoal}
+use Rattle.deck.specs.Assignments.{barred, entryAt, sumOf}
 use Rattle.deck.specs.Search.{Answer, plan, noPlan, spent}
 use Rattle.deck.specs.declared.Carrier.{Carrier}
 use Rattle.deck.specs.declared.Task.{Task}
@@ -115,6 +116,25 @@ pub record Assignment (m : ℕ) (a : List ℕ) : Type 0 where
   pub as-many : length a ≡ m
   pub tasks : (i : ℕ) → i < m → a at i < m
   pub once : (i j : ℕ) → i < m → j < m → a at i ≡ a at j → i ≡ j
+
+-- an assignment that uses no barred entry of a table
+abbrev pub Unbarred : ℕ → List ℕ → List ℕ → Type 0
+Unbarred m table a = Assignment m a × ((i : ℕ) → i < m → entryAt m table i (a at i) ≢ barred)
+
+-- every assignment uses a barred entry
+abbrev pub AllBarred : ℕ → List ℕ → Type 0
+AllBarred m table = (a : List ℕ) → Assignment m a → (i : ℕ) × (i < m) × (entryAt m table i (a at i) ≡ barred)
+
+-- a list comes before another and is another, compared number by number
+abbrev pub StrictlyBefore : List ℕ → List ℕ → Type 0
+StrictlyBefore [] [] = ⊥
+StrictlyBefore [] (y ∷ b) = Unit {0}
+StrictlyBefore (x ∷ a) [] = ⊥
+StrictlyBefore (x ∷ a) (y ∷ b) = (x < y) ⊎ ((x ≡ y) × StrictlyBefore a b)
+
+-- a comes before b in the order of assignments: by sum of entries, then by list of task numbers
+abbrev pub Less : ℕ → List ℕ → List ℕ → List ℕ → Type 0
+Less m table a b = (sumOf m table a < sumOf m table b) ⊎ ((sumOf m table a ≡ sumOf m table b) × StrictlyBefore a b)
 
 -- the assignment a and the paths ps are a plan for the sheet; fs are the finishes
 pub record Plan (d : Sheet) (a : List ℕ) (ps : List (List ℕ)) (fs : List ℕ) : Type 0 where
