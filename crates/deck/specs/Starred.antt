@@ -4,7 +4,6 @@ use Rattle.deck.specs.Calls.{noTasks, taskList}
 use Rattle.deck.specs.Listing.{text}
 use Rattle.deck.specs.Rounds.{Round, askCause, askAssignment, askListing, _gives_, searching, sheet, planned, none, spent, round6, crossing, row}
 
--- the assignment's numbers and its task list
 abbrev pub starred : List Round
 starred =
     -- 1
