@@ -1,6 +1,7 @@
 pub mod Tests
 pub mod Lists
 pub mod ListTests
+pub mod Accepted
 pub mod Before
 pub mod Walks
 pub mod Finish
