@@ -1,6 +1,6 @@
 -- Demand 3: of each accepted sheet, the search's answer is right. Assumes nothing.
 use Prim.Native.Nat.{ℕ, _≤_, _<_}
-use mathlib.Core.Path.{_≡_, sym, ap, subst, _∙_}
+use mathlib.Core.Path.{_≡_, sym, subst, _∙_}
 use mathlib.Core.List.{List, map}
 use mathlib.Core.Option.{some}
 use native.Mathlib.Omega.{arith}
