@@ -6,3 +6,4 @@ pub mod Optimal
 pub mod Raise
 pub mod Deck
 pub mod Demand3
+pub mod Written
