@@ -1,0 +1,124 @@
+// The first collision of m paths up to time H: least t, place before move, then least pair i < j.
+use deck::Carrier;
+use deck::Collision;
+use deck::CollisionAnswer;
+ghost use mathlib.Core.Path.{_≡_};
+ghost use Prim.Native.Nat.{suc, _+_, _*_, _≤_, _<_};
+ghost use lib.ListN.{length};
+ghost use Rattle.deck.specs.Lists.{pieces};
+ghost use Rattle.deck.specs.Collisions.{firstCollision};
+ghost use Rattle.deck.specs.Calls.{collisionFound, collisionCall};
+ghost use Rattle.deck.specs.Numbers.{collisionNumbers};
+ghost use Rattle.collision.specs.Meant.{Meant};
+ghost use Rattle.collision.specs.Words.{placeIn, Row, meets, exchanges, placeAnswer, moveAnswer};
+
+// The causes of document 01: a count m outside 1 to 12, and paths that are not exactly m × (H + 1) words.
+const COUNT: u8 = 12;
+
+const LENGTH: u8 = 11;
+
+fn wide(x: u16) -> usize
+    ensures { λ r. ⌜ (r ≡ x) × (r < 65536) ⌝ }
+{
+    x as usize
+}
+
+// The place of a carrier at t, where each path has n places.
+fn place(paths: &[u16], n: usize, c: Carrier, t: usize) -> usize
+    requires { ⌜ (c .0) * n + t < length (now paths) ⌝ }
+    ensures { λ r. ⌜ r ≡ placeIn (now (paths .entry)) n (c .0) t ⌝ }
+{
+    let i = c.0;
+    wide(paths[i * n + t])
+}
+
+// Both carriers are on one place at t.
+fn meet(paths: &[u16], n: usize, i: Carrier, j: Carrier, t: usize) -> bool
+    requires { ⌜ Row (now paths) n (i .0) × Row (now paths) n (j .0) × (t < n) ⌝ }
+    ensures { λ r. ⌜ r ≡ meets (now (paths .entry)) n (i .0) (j .0) t ⌝ }
+{
+    place(paths, n, i, t) == place(paths, n, j, t)
+}
+
+// Between t and t + 1 the carriers exchange two places. The first test is the one that most pairs fail.
+fn exchange(paths: &[u16], n: usize, i: Carrier, j: Carrier, t: usize) -> bool
+    requires { ⌜ Row (now paths) n (i .0) × Row (now paths) n (j .0) × (t + 1 < n) ⌝ }
+    ensures { λ r. ⌜ r ≡ exchanges (now (paths .entry)) n (i .0) (j .0) t ⌝ }
+{
+    let v = place(paths, n, i, t + 1);
+    if v != place(paths, n, j, t) {
+        return false;
+    }
+    let u = place(paths, n, i, t);
+    if u == v {
+        return false;
+    }
+    u == place(paths, n, j, t + 1)
+}
+
+fn place_answer(paths: &[u16], n: usize, i: Carrier, j: Carrier, t: usize) -> CollisionAnswer
+    requires { ⌜ Row (now paths) n (i .0) × (t < n) ⌝ }
+    ensures { λ r. ⌜ r ≡ placeAnswer (now (paths .entry)) n i j t ⌝ }
+{
+    let u = place(paths, n, i, t);
+    CollisionAnswer::Found(Collision::Place { t, i, j, u })
+}
+
+fn move_answer(paths: &[u16], n: usize, i: Carrier, j: Carrier, t: usize) -> CollisionAnswer
+    requires { ⌜ Row (now paths) n (i .0) × (t + 1 < n) ⌝ }
+    ensures { λ r. ⌜ r ≡ moveAnswer (now (paths .entry)) n i j t ⌝ }
+{
+    let u = place(paths, n, i, t);
+    let v = place(paths, n, i, t + 1);
+    CollisionAnswer::Found(Collision::Move { t, i, j, u, v })
+}
+
+// The first collision of m paths of h + 1 places each, which stand one after the other from the first word on.
+pub fn first_among(m: usize, h: usize, paths: &[u16]) -> CollisionAnswer
+    requires { ⌜ (m * suc h ≤ length (now paths)) × (h < 65536) ⌝ }
+    ensures { λ r. ⌜ r ≡ collisionFound (firstCollision m h (pieces m (suc h) (now (paths .entry)))) ⌝ }
+{
+    let n = h + 1;
+    let mut found = CollisionAnswer::NoCollision;
+    'search: for t in 0..n {
+        for i in 0..m {
+            for j in i + 1..m {
+                if meet(paths, n, Carrier(i), Carrier(j), t) {
+                    found = place_answer(paths, n, Carrier(i), Carrier(j), t);
+                    break 'search;
+                }
+            }
+        }
+        if t < h {
+            for i in 0..m {
+                for j in i + 1..m {
+                    if exchange(paths, n, Carrier(i), Carrier(j), t) {
+                        found = move_answer(paths, n, Carrier(i), Carrier(j), t);
+                        break 'search;
+                    }
+                }
+            }
+        }
+    }
+    found
+}
+
+// Document 01's call, for any m, h and words.
+pub fn first_collision(m: u8, h: u8, paths: &[u16]) -> CollisionAnswer
+    ensures { λ r. ⌜ r ≡ collisionCall m h (now (paths .entry)) ⌝ }
+    ensures { λ r. ⌜ collisionNumbers r ≡ collisionNumbers (collisionCall m h (now (paths .entry))) ⌝ }
+    ensures { λ r. ⌜ Meant m h (now (paths .entry)) r ⌝ }
+{
+    let count = m as usize;
+    let last = h as usize;
+    if count < 1 {
+        return CollisionAnswer::Refused(COUNT);
+    }
+    if 12 < count {
+        return CollisionAnswer::Refused(COUNT);
+    }
+    if paths.len() != count * (last + 1) {
+        return CollisionAnswer::Refused(LENGTH);
+    }
+    first_among(count, last, paths)
+}
