@@ -19,7 +19,7 @@ use Rattle.deck.specs.declared.CollisionAnswer.the-variants.{Refused}
 use Rattle.meaning.proofs.Collisions.{FirstMeant, first-collision-meant}
 use Rattle.collision.specs.Meant.{Meant}
 
-and-false : (x : Bool) → x && false ≡ false
+pub and-false : (x : Bool) → x && false ≡ false
 and-false true = refl
 and-false false = refl
 

@@ -1,0 +1,45 @@
+// The least assignment of tasks to carriers, with dual prices that prove it least; and, in order, the parts that the search takes
+// the assignments from.
+pub mod order;
+mod price;
+
+use deck::AssignmentAnswer;
+use deck::AssignmentKind;
+ghost use mathlib.Core.Path.{_≡_};
+ghost use Rattle.deck.specs.Calls.{AssignmentCall};
+ghost use Rattle.assignment.specs.Answers.{withoutTasks};
+
+// The answer without an assignment: no task, and all prices 0.
+fn without(kind: AssignmentKind) -> AssignmentAnswer
+    ensures { λ r. ⌜ r ≡ withoutTasks kind ⌝ }
+{
+    AssignmentAnswer {
+        kind: kind,
+        tasks: [255; 12],
+        rows: [0; 12],
+        columns: [0; 12],
+    }
+}
+
+// The least assignment of a table of m by m entries, 65535 barred: the first by sum, then by list, with prices.
+pub fn least_assignment(m: u8, table: &[u16]) -> AssignmentAnswer
+    ensures { λ r. ⌜ AssignmentCall m (now (table .entry)) r ⌝ }
+{
+    let n = tables::wide(m);
+    if n < 1 {
+        return without(AssignmentKind::Refused(12));
+    }
+    if 12 < n {
+        return without(AssignmentKind::Refused(12));
+    }
+    if table.len() != n * n {
+        return without(AssignmentKind::Refused(12));
+    }
+    let t = tables::filled(n, table);
+    let first = order::first(n, &t);
+    if !first.found {
+        return without(AssignmentKind::NoAssignment);
+    }
+    let tasks = first.tasks;
+    price::priced(n, &t, tasks)
+}

@@ -1,0 +1,5 @@
+pub mod Walks
+pub mod Records
+pub mod Ways
+pub mod Grid
+pub mod Slots

@@ -1,0 +1,31 @@
+-- The padded grid: rows of width w + 2 with a border around the grid, so that the places around a place are always one and one
+-- row apart. A layer is a number for each padded place. Assumes nothing.
+use Prim.Native.Nat.{ℕ, _+_, _*_, _/_, _<_}
+use mathlib.Core.Path.{_≡_}
+use mathlib.Core.Logic.{_≢_}
+use mathlib.Core.Bool.{cond}
+use mathlib.Core.List.{List}
+use lib.ListN.{length, getD}
+use Rattle.deck.specs.Sheet.{Sheet, area, free}
+
+-- the padded number of a place
+abbrev pub padOf : ℕ → ℕ → ℕ
+padOf w v = v + 2 * (v / w) + w + 3
+
+-- the places of the padded grid: 34 rows of 34
+abbrev pub cells : ℕ
+cells = 1156
+
+-- a padded place on the border, or past the grid
+abbrev pub Border : Sheet → ℕ → Type 0
+Border d p = (v : ℕ) → v < area d → padOf (d .width) v ≢ p
+
+-- the layer has f at each place, and 0 on the border
+pub record Holds (d : Sheet) (x : List ℕ) (f : ℕ → ℕ) : Type 0 where
+  pub size : length x ≡ cells
+  pub inside : (v : ℕ) → v < area d → getD x (padOf (d .width) v) 0 ≡ f v
+  pub border : (p : ℕ) → Border d p → getD x p 0 ≡ 0
+
+-- the mask of a sheet: 255 at a free place, 0 elsewhere
+abbrev pub MaskOf : Sheet → List ℕ → Type 0
+MaskOf d mask = Holds d mask (λ v. cond (free d v) 255 0)

@@ -1,0 +1,15 @@
+pub mod Both
+pub mod Choice
+pub mod Labels
+pub mod Passes
+pub mod Trace
+pub mod Finish
+pub mod Near
+pub mod OfSheet
+pub mod Reverse
+pub mod Kernel
+pub mod Least
+pub mod Blocked
+pub mod Table
+pub mod Bounds
+pub mod Follow

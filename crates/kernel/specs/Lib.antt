@@ -1,0 +1,5 @@
+pub mod Layers
+pub mod Goals
+pub mod Near
+pub mod Parts
+pub mod Kernel

@@ -1,0 +1,6 @@
+pub mod Fills
+pub mod Around
+pub mod Raising
+pub mod Stepping
+pub mod Advancing
+pub mod Keeping

@@ -1,0 +1,5 @@
+pub mod Fill
+pub mod Spread
+pub mod Raise
+pub mod Packed
+pub mod Step

@@ -1,0 +1,67 @@
+-- One step of a layer of labels: what the code's step comes to on the grid itself. Assumes nothing.
+use Prim.Native.Nat.{ℕ, _+_, _*_, _≤_, _<_}
+use mathlib.Core.Path.{_≡_}
+use mathlib.Core.Bool.{Bool, cond, _&&_}
+use mathlib.Core.List.{List}
+use lib.ListN.{length, getD}
+use lib.Dec.{T}
+use Rattle.deck.specs.Sheet.{Sheet, area, free}
+use Rattle.deck.specs.declared.Carrier.{Carrier}
+use Rattle.deck.specs.declared.Constraint.{Constraint}
+use Rattle.kernel.specs.Layers.{best}
+use Rattle.kernel.specs.Near.{near}
+use Rattle.kernel.specs.Parts.{freePlace, freeMove, stepFree}
+use Rattle.kernel.specs.Kernel.{settle, seed}
+use Rattle.bars.specs.Padded.{padOf, Holds, MaskOf}
+use Rattle.layers.specs.Raise.{GoalsAt}
+
+-- one may go from u to v at t, or backward from v to u
+abbrev pub mayGo : Sheet → Carrier → List Constraint → ℕ → Bool → ℕ → ℕ → Bool
+mayGo d i cs t back v u = cond back (stepFree d v u && freeMove i cs t v u) (stepFree d u v && freeMove i cs t u v)
+
+-- the greatest label around v that may come, or go, to v at t
+abbrev pub around : Sheet → Carrier → List Constraint → ℕ → Bool → (ℕ → ℕ) → ℕ → ℕ
+around d i cs t back f v = best (mayGo d i cs t back v) f (near d v)
+
+-- the next layer: `on` is the time at which one is there, t that of the moves
+abbrev pub nextLayer : Sheet → Carrier → List Constraint → (t on : ℕ) → Bool → List ℕ → (ℕ → ℕ) → ℕ → ℕ
+nextLayer d i cs t on back gs f v = settle (freePlace i cs on) gs v (around d i cs t back f v)
+
+-- the width, the height and the mask are those of the sheet
+pub record Ground (d : Sheet) (w h : ℕ) (mask : List ℕ) : Type 0 where
+  pub width : d .width ≡ w
+  pub height : d .height ≡ h
+  pub masked : MaskOf d mask
+
+-- labels are bytes, and 0 at a blocked place
+pub record Labels (d : Sheet) (f : ℕ → ℕ) : Type 0 where
+  pub small : (v : ℕ) → f v < 256
+  pub blocked : (v : ℕ) → ¬ T (free d v) → f v ≡ 0
+
+-- above and below the grid a layer is 0
+pub record Margin (w h : ℕ) (x : List ℕ) : Type 0 where
+  pub size : length x ≡ 1156
+  pub over : (p : ℕ) → p < w + 2 → getD x p 0 ≡ 0
+  pub under : (p : ℕ) → (w + 2) * (h + 1) ≤ p → getD x p 0 ≡ 0
+
+-- the five ways with one mask each
+pub record Copies (mask ways : List ℕ) : Type 0 where
+  pub size : length ways ≡ 6936
+  pub copied : (k : ℕ) → k < 5 → (p : ℕ) → p < 1156 → getD ways (1156 * k + p) 0 ≡ getD mask p 0
+
+-- after the labels of src have gone one step at t: on every sheet that the numbers and the mask are those of
+pub record Advanced (w h : ℕ) (mask : List ℕ) (i : Carrier) (cs : List Constraint) (t : ℕ) (back : Bool) (src before after : List ℕ) : Type 0 where
+  pub size : length after ≡ 1156
+  pub holds : (d : Sheet) (f : ℕ → ℕ) → Ground d w h mask → Labels d f → Holds d src f → Margin w h before → Holds d after (around d i cs t back f)
+
+-- the same, where one may be there at `on`, raised by the goals
+pub record Stepped (w h : ℕ) (mask : List ℕ) (i : Carrier) (cs : List Constraint) (t on : ℕ) (back : Bool) (goals : List ℕ) (n : ℕ) (src before after : List ℕ) : Type 0 where
+  pub size : length after ≡ 1156
+  pub holds : (d : Sheet) (gs : List ℕ) (f : ℕ → ℕ) → Ground d w h mask → GoalsAt w gs goals n → Labels d f → Holds d src f → Margin w h before
+      → Holds d after (nextLayer d i cs t on back gs f)
+
+-- the layer of one place, where one may be at `on`, raised by the goals
+pub record Seeded (w : ℕ) (i : Carrier) (cs : List Constraint) (on : ℕ) (goals : List ℕ) (n p : ℕ) (layer : List ℕ) : Type 0 where
+  pub size : length layer ≡ 1156
+  pub holds : (d : Sheet) (gs : List ℕ) (v : ℕ) → d .width ≡ w → GoalsAt w gs goals n → v < area d → p ≡ padOf w v
+      → Holds d layer (seed (freePlace i cs on) gs v)

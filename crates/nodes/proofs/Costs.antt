@@ -1,0 +1,47 @@
+-- The cost of a record's node: the sum of its finishes, and less than the key of a closed node. Assumes nothing.
+use mathlib.Core.Path.{_≡_, refl, sym, _∙_, ap}
+use mathlib.Core.List.{List, [], _∷_, _++_, map}
+use Prim.Native.Nat.{ℕ, zero, suc, _+_, _*_, _<_, _≤_}
+use native.Mathlib.Nat.{zero-add}
+use native.Mathlib.Omega.{arith}
+use lib.ListN.{length, getD, take}
+use lib.Seq.{getD-take}
+use Rattle.deck.specs.Lists.{countFrom, below, sum}
+use Rattle.deck.specs.Sheet.{Sheet, task, lastGoal}
+use Rattle.deck.specs.Paths.{finish, finishOf}
+use Rattle.deck.specs.Search.{flowtime, taskOf, pathAt}
+use Rattle.deck.specs.Planner.{problem}
+use Rattle.meaning.proofs.Lists.{getD-tabulate}
+use Rattle.meaning.proofs.Finish.{finish-least}
+use Rattle.pack.proofs.Trips.{length-unpack}
+use Rattle.records.specs.Record.{tasksIn, finishesIn, packedIn}
+use Rattle.nodes.specs.Nodes.{pathOf, pathsOf, assignmentOf, costOf}
+use Rattle.nodes.specs.Stored.{Fits, Sound}
+use Rattle.nodes.proofs.Tables.{map-same, sum-most, sum-table}
+
+module _ (d : Sheet) (fs : List (List ℕ)) where
+  -- the finish of carrier i
+  abbrev pub finishIn : ℕ → ℕ
+  finishIn i = finishOf d (task (getD (tasksIn fs) i 0)) (pathOf d fs i)
+
+  pub path-at : (i : ℕ) → i < d .count → getD (pathsOf d fs) i [] ≡ pathOf d fs i
+  path-at i h = getD-tabulate (pathOf d fs) 0 (d .count) i [] h ∙ ap (pathOf d fs) (zero-add i)
+
+  pub cost-is : costOf d fs ≡ sum (map finishIn (below (d .count)))
+  unfolding costOf problem
+  cost-is = ap sum (map-same _ finishIn 0 (d .count) (λ i a b. rw (path-at i (omega arith), getD-take (d .count) (tasksIn fs) i 0 (omega arith))))
+
+  pub cost-small : Fits d → costOf d fs ≤ 3072
+  cost-small f = omega (arith, cost-is, sum-most finishIn 0 (d .count) (λ i a b. most i), f .count)
+    where
+      most : (i : ℕ) → finishIn i ≤ 256
+      most i =
+          let l : length (pathOf d fs i) ≡ d .horizon + 1 = length-unpack (d .width) (d .horizon) (packedIn fs i) (getD (d .starts) i 0) in
+          let h : finishIn i ≤ length (pathOf d fs i) = finish-least (lastGoal d (task (getD (tasksIn fs) i 0))) (pathOf d fs i) (length (pathOf d fs i)) (omega arith) (λ t x y. absurd (omega arith)) in
+          omega (arith, f .horizon)
+
+  -- the finishes that are stored
+  pub finishes-sum : (k : ℕ) → Fits d → Sound d k fs → length (finishesIn fs) ≡ 12 → sum (finishesIn fs) ≡ costOf d fs
+  finishes-sum k f s l =
+      sum-table (finishesIn fs) finishIn 0 (d .count) (omega (arith, f .count)) (λ i h. s .finishes i h ∙ ap finishIn (sym (zero-add i))) (s .zeros)
+      ∙ sym cost-is

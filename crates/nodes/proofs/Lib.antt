@@ -1,0 +1,11 @@
+pub mod Tables
+pub mod Grid
+pub mod Chains
+pub mod Costs
+pub mod Picks
+pub mod Adds
+pub mod Makes
+pub mod Kept
+pub mod Readers
+pub mod Gathers
+pub mod Rows

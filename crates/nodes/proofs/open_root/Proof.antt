@@ -1,0 +1,24 @@
+-- `open_root` meets its contract: the root's key is its cost. Assumes nothing.
+use native.Mathlib.Omega.{arith}
+use mathlib.Core.Path.{refl}
+use Prim.Native.Nat.{_-_}
+use denote.Ref.{now}
+use borrow.Author.Needs.{needs}
+use Rattle.nodes.proofs.Makes.{root-added}
+use Rattle.nodes.proofs.open_root.Statement.{statement}
+use Rattle.nodes.proofs.open_root.Tie as tie
+
+open-node-requires : tie.Need-open-node-requires
+open-node-requires c κs = search needs
+
+same-length : tie.Need-same-length
+same-length c = search needs
+
+returns : tie.Need-returns
+returns c =
+    let args = c .before .before .before .before .before .args in
+    let open-node = c .before .before .open-node in
+    λ d a f s r. root-added d (args .limit) (now (args .work)) (args .made) a f s r _ _ (omega arith) (omega arith) (omega arith) refl (open-node .ensures)
+
+pub open-root-spec : {M : Type 1} → statement M
+open-root-spec = tie.close (tie.spec open-node-requires same-length returns)

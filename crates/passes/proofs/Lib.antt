@@ -1,0 +1,4 @@
+pub mod Given
+pub mod Turning
+pub mod Passing
+pub mod Backing

@@ -1,0 +1,74 @@
+-- Steps and finishes: what the code tests, against the definitions. Assumes nothing.
+use Prim.Native.Nat.{ℕ, _-_, _/_, _%_, _≤_, _<_}
+use mathlib.Core.Path.{_≡_, refl, sym}
+use mathlib.Core.Logic.{_⊎_, inl, inr, ⊎-elim}
+use mathlib.Core.Bool.{Bool, true, false}
+use mathlib.Core.List.{List}
+use native.Mathlib.Nat.{eq-or-lt-of-le}
+use native.Mathlib.Omega.{arith}
+use lib.ListN.{length, getD}
+use lib.Dec.{T, eqb}
+use Rattle.deck.specs.Paths.{oneApart, beside, finish}
+use Rattle.meaning.specs.Meaning.{OneApart}
+use Rattle.meaning.proofs.Tests.{Says, says-eqb, says-and, says-or, is-false}
+use Rattle.meaning.proofs.Paths.{apart-meant}
+use Rattle.meaning.proofs.Finish.{finish-rests, finish-least}
+
+same : (a b : Bool) → (T a → T b) → (T b → T a) → a ≡ b
+same true true f g = refl
+same true false f g = absurd (f tt)
+same false true f g = absurd (g tt)
+same false false f g = refl
+
+-- two tests that say the same are the same
+pub same-says : {a b : Bool} {P Q : Type 0} → Says a P → Says b Q → (P → Q) → (Q → P) → a ≡ b
+same-says {a} {b} s t f g = same a b (λ x. t .test (f (s .fact x))) (λ x. s .test (g (t .fact x)))
+
+module _ (a b : ℕ) where
+  pub apart-up : a < b → eqb (b - a) 1 ≡ oneApart a b
+  apart-up h = same-says says-eqb (apart-meant a b) (λ (e : b - a ≡ 1). inl (omega arith)) (⊎-elim (λ e. omega arith) (λ e. absurd (omega arith)))
+
+  pub apart-down : b ≤ a → eqb (a - b) 1 ≡ oneApart a b
+  apart-down h = same-says says-eqb (apart-meant a b) (λ (e : a - b ≡ 1). inr (omega arith)) (⊎-elim (λ e. absurd (omega arith)) (λ e. omega arith))
+
+not-apart : (a b : ℕ) → a ≡ b → ¬ OneApart a b
+not-apart a b e = ⊎-elim (λ q. omega arith) (λ q. omega arith)
+
+module _ (w u v : ℕ) where
+  abbrev InRow : Type 0
+  InRow = (u / w ≡ v / w) × OneApart (u % w) (v % w)
+
+  abbrev InColumn : Type 0
+  InColumn = (u % w ≡ v % w) × OneApart (u / w) (v / w)
+
+  says-beside : Says (beside w u v) (InRow ⊎ InColumn)
+  unfolding beside
+  says-beside = says-or (says-and says-eqb (apart-meant _ _)) (says-and says-eqb (apart-meant _ _))
+
+  pub beside-row : u / w ≡ v / w → oneApart (u % w) (v % w) ≡ beside w u v
+  beside-row e = same-says (apart-meant _ _) says-beside (λ h. inl (e, h)) (⊎-elim (λ h. h .1) (λ h. absurd (not-apart _ _ e (h .1))))
+
+  pub beside-column : (u / w ≡ v / w → ⊥) → u % w ≡ v % w → oneApart (u / w) (v / w) ≡ beside w u v
+  beside-column n e = same-says (apart-meant _ _) says-beside (λ h. inr (e, h)) (⊎-elim (λ h. absurd (n (h .0))) (λ h. h .1))
+
+  pub not-beside : (u / w ≡ v / w → ⊥) → (u % w ≡ v % w → ⊥) → false ≡ beside w u v
+  not-beside n k = sym (is-false (beside w u v) (λ t. ⊎-elim (λ h. n (h .0)) (λ h. k (h .0)) (says-beside .fact t)))
+
+-- the path is on g from t on
+abbrev pub OnFrom : ℕ → List ℕ → ℕ → Type 0
+OnFrom g p t = (u : ℕ) → t ≤ u → u < length p → getD p u 0 ≡ g
+
+module _ (g : ℕ) (p : List ℕ) (t : ℕ) (l : t ≤ length p) (on : OnFrom g p t) where
+  pub finish-here : (0 < t → getD p (t - 1) 0 ≡ g → ⊥) → t ≡ finish g p
+  finish-here n = go (eq-or-lt-of-le (finish-least g p t l on))
+    where
+      go : (finish g p ≡ t) ⊎ (finish g p < t) → t ≡ finish g p
+      go (inl e) = sym e
+      go (inr h) = absurd (n (omega arith) (finish-rests g p (t - 1) (omega arith) (omega arith)))
+
+  pub on-before : 0 < t → getD p (t - 1) 0 ≡ g → OnFrom g p (t - 1)
+  on-before h e u a b = go (eq-or-lt-of-le a)
+    where
+      go : (t - 1 ≡ u) ⊎ (t - 1 < u) → getD p u 0 ≡ g
+      go (inl q) = rw (← q) e
+      go (inr k) = on u (omega arith) b

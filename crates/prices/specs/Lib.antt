@@ -1,0 +1,3 @@
+pub mod Matching
+pub mod Weights
+pub mod Square

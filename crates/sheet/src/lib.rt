@@ -1,0 +1,181 @@
+// The calls that read a job sheet (document 01, "The job sheet") out of any bytes whatever: none has a `requires`. A byte past the end
+// reads 0, as in the definitions. What holds of an accepted sheet alone is said as an implication.
+use deck::Carrier;
+use deck::Reading;
+use deck::Task;
+use sheet_parts::COUNT;
+use sheet_parts::HEIGHT;
+use sheet_parts::HORIZON;
+use sheet_parts::LIMIT;
+use sheet_parts::STARTS;
+use sheet_parts::TASKS;
+use sheet_parts::WIDTH;
+ghost use mathlib.Core.Path.{_≡_};
+ghost use Prim.Native.Nat.{_+_, _*_, _<_, _≤_, max};
+ghost use mathlib.Core.List.{map};
+ghost use lib.ListN.{length, getD};
+ghost use Rattle.deck.specs.Lists.{below};
+ghost use Rattle.deck.specs.Sheet.{byteAt, wordAt, countOf, part, read, area, free, startOf, goalsOf, lastGoal, mostGoals, cause};
+ghost use Rattle.deck.specs.Calls.{fourteen, workspaceFor, readCall, goalsCall};
+ghost use Rattle.sheet_parts.specs.Part.{BeginsAt};
+
+// The first cause that lies in the sheet itself, 1 to 7, and 0 for an accepted sheet.
+pub fn cause(s: &[u8]) -> u8
+    ensures { λ r. ⌜ r ≡ cause (now (s .entry)) ⌝ }
+{
+    sheet_causes::cause(s)
+}
+
+// The words at first, first + 4, first + 8 and so on, n of them: one side of the directory's pairs. The rest is 0.
+fn every_fourth(s: &[u8], first: usize, n: usize) -> [usize; 14]
+    requires { ⌜ (first < 16) × (n ≤ 14) ⌝ }
+    ensures { λ r. ⌜ r ≡ fourteen (map (λ k. wordAt (now (s .entry)) (first + 4 * k)) (below n)) ⌝ }
+{
+    let mut words = [0usize; 14];
+    for k in 0..n {
+        words[k] = word_at(s, first + 4 * k);
+    }
+    words
+}
+
+// The sheet reader: the cause and zeros, or 0 with the header and the directory's pairs.
+pub fn read(s: &[u8]) -> Reading
+    ensures { λ r. ⌜ r ≡ readCall (now (s .entry)) ⌝ }
+{
+    let c = cause(s);
+    if c != 0 {
+        let zeros = [0usize; 14];
+        return Reading {
+            cause: c,
+            width: 0,
+            height: 0,
+            count: 0,
+            horizon: 0,
+            limit: 0,
+            offsets: zeros,
+            lengths: zeros,
+        };
+    }
+    let pairs = byte_at(s, COUNT) + TASKS;
+    let offsets = every_fourth(s, 8, pairs);
+    let lengths = every_fourth(s, 10, pairs);
+    Reading {
+        cause: 0,
+        width: byte_at(s, WIDTH),
+        height: byte_at(s, HEIGHT),
+        count: byte_at(s, COUNT),
+        horizon: byte_at(s, HORIZON),
+        limit: word_at(s, LIMIT),
+        offsets,
+        lengths,
+    }
+}
+
+// A task's goals: that stretch of the sheet itself; on any cause, 1 to 8, the empty stretch at the sheet's start.
+pub fn task_goals<'a>(s: &'a [u8], j: Task) -> &'a [u8]
+    ensures { λ r. ⌜ now r ≡ part (now (s .entry)) (goalsCall (now (s .entry)) j) ⌝ }
+    ensures { λ r. ⌜ BeginsAt (goalsCall (now (s .entry)) j .offset) (s .entry) r ⌝ }
+{
+    if cause(s) == 0 {
+        sheet_parts::task_part(s, j)
+    } else {
+        &s[0..0]
+    }
+}
+
+// The byte k.
+pub fn byte_at(s: &[u8], k: usize) -> usize
+    ensures { λ r. ⌜ r ≡ byteAt (now (s .entry)) k ⌝ }
+    ensures { λ r. ⌜ r < 256 ⌝ }
+{
+    sheet_parts::byte_at(s, k)
+}
+
+// The two-byte value at k, low byte first.
+pub fn word_at(s: &[u8], k: usize) -> usize
+    ensures { λ r. ⌜ r ≡ wordAt (now (s .entry)) k ⌝ }
+    ensures { λ r. ⌜ r < 65536 ⌝ }
+{
+    sheet_parts::word_at(s, k)
+}
+
+// The grid byte of the place v: 0 free, 1 blocked.
+pub fn grid_byte(s: &[u8], v: usize) -> u8
+    ensures { λ r. ⌜ (cause (now (s .entry)) ≡ 0 → r ≡ getD (read (now (s .entry)) .grid) v 0) ⌝ }
+    ensures { λ r. ⌜ (cause (now (s .entry)) ≡ 0 → r ≤ 1) ⌝ }
+{
+    sheet_parts::cell(s, v)
+}
+
+// v is a place of the grid that is not blocked.
+pub fn is_free(s: &[u8], v: usize) -> bool
+    ensures { λ r. ⌜ (cause (now (s .entry)) ≡ 0 → r ≡ free (read (now (s .entry))) v) ⌝ }
+{
+    sheet_parts::free_place(s, v)
+}
+
+// The place at which the carrier i starts.
+pub fn start(s: &[u8], i: Carrier) -> usize
+    ensures { λ r. ⌜ (cause (now (s .entry)) ≡ 0 → r ≡ startOf (read (now (s .entry))) i) ⌝ }
+    ensures { λ r. ⌜ (cause (now (s .entry)) ≡ 0 → r < area (read (now (s .entry)))) ⌝ }
+    ensures { λ r. ⌜ r < 65536 ⌝ }
+{
+    let k = i.0;
+    sheet_parts::nth_word(sheet_parts::stretch(s, STARTS), k)
+}
+
+// How many goals the task j has.
+pub fn goal_count(s: &[u8], j: Task) -> usize
+    ensures { λ r. ⌜ (cause (now (s .entry)) ≡ 0 → r ≡ length (goalsOf (read (now (s .entry))) j)) ⌝ }
+    ensures { λ r. ⌜ (cause (now (s .entry)) ≡ 0 → r ≤ 8) ⌝ }
+    ensures { λ r. ⌜ (cause (now (s .entry)) ≡ 0 → j .0 < countOf (now (s .entry)) → 0 < r) ⌝ }
+{
+    sheet_parts::goals_number(s, j)
+}
+
+// The goal k of the task j, counted from 0.
+pub fn goal(s: &[u8], j: Task, k: usize) -> usize
+    ensures { λ r. ⌜ (cause (now (s .entry)) ≡ 0 → r ≡ getD (goalsOf (read (now (s .entry))) j) k 0) ⌝ }
+    ensures { λ r. ⌜ (cause (now (s .entry)) ≡ 0 → r < area (read (now (s .entry)))) ⌝ }
+    ensures { λ r. ⌜ r < 65536 ⌝ }
+{
+    sheet_parts::nth_word(sheet_parts::task_part(s, j), k)
+}
+
+// The last goal of the task j.
+pub fn last_goal(s: &[u8], j: Task) -> usize
+    ensures { λ r. ⌜ (cause (now (s .entry)) ≡ 0 → r ≡ lastGoal (read (now (s .entry))) j) ⌝ }
+    ensures { λ r. ⌜ (cause (now (s .entry)) ≡ 0 → r < area (read (now (s .entry)))) ⌝ }
+    ensures { λ r. ⌜ r < 65536 ⌝ }
+{
+    sheet_parts::last_word(sheet_parts::task_part(s, j))
+}
+
+fn larger(a: usize, b: usize) -> usize
+    ensures { λ r. ⌜ r ≡ max a b ⌝ }
+{
+    if a < b { b } else { a }
+}
+
+// The most goals of any task.
+fn most_goals(s: &[u8]) -> usize
+    ensures { λ r. ⌜ r ≡ mostGoals (read (now (s .entry))) ⌝ }
+    ensures { λ r. ⌜ r < 32768 ⌝ }
+{
+    let m = byte_at(s, COUNT);
+    let mut most = 0;
+    for j in 0..m {
+        most = larger(most, sheet_parts::goals_number(s, Task(j)));
+    }
+    most
+}
+
+// How many words of 32 bits of workspace the sheet asks for.
+pub fn workspace(s: &[u8]) -> usize
+    ensures { λ r. ⌜ (cause (now (s .entry)) ≡ 0 → r ≡ workspaceFor (read (now (s .entry)))) ⌝ }
+    ensures { λ r. ⌜ (cause (now (s .entry)) ≡ 0 → r < 8388608) ⌝ }
+{
+    let layers = byte_at(s, HORIZON) + 1;
+    let labels = most_goals(s) + 1;
+    512 * word_at(s, LIMIT) + layers * sheet_parts::area(s) * labels + 4096
+}
