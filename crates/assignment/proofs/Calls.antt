@@ -1,22 +1,21 @@
 -- The whole answers of the calls: each cause, none, the least assignment, and a slot's part. Assumes nothing.
-use Prim.Native.Nat.{ℕ, _+_, _*_, _≤_, _<_}
-use mathlib.Core.Path.{_≡_, refl, sym, ap, ap₂, subst, _∙_}
-use mathlib.Core.Logic.{_⊎_, inl, inr, ⊎-elim, _≢_}
-use mathlib.Core.Bool.{Bool, true, false, cond, false≢true}
+use Prim.Native.Nat.{ℕ, _*_, _≤_, _<_}
+use mathlib.Core.Path.{_≡_, refl, sym, ap, _∙_}
+use mathlib.Core.Logic.{_⊎_, ⊎-elim, _≢_}
+use mathlib.Core.Bool.{true, false, false≢true}
 use mathlib.Core.List.{List}
 use mathlib.Core.Option.{Option, none, some}
-use native.Mathlib.Nat.{le-refl}
 use native.Mathlib.Omega.{arith}
-use lib.ListN.{length, getD, take, set, replicate, getD-replicate}
+use lib.ListN.{length, take, replicate, getD-replicate}
 use lib.Seq.{getD-take}
 use lib.IntN.{pos}
 use borrow.Author.Tests.{le-leb, lt-leb, eq-eqb, ne-eqb, lt-ltb, le-ltb}
-use Rattle.deck.specs.Assignments.{leastAssignment, sumOf}
-use Rattle.deck.specs.Calls.{noTasks, taskList, assignmentCause, leastFor, assignmentKind, assignmentTasks, PricesOf, ZeroFrom, AssignmentCall}
-use Rattle.deck.specs.declared.AssignmentKind.the-variants.{Least, NoAssignment, Refused}
+use Rattle.deck.specs.Assignments.{leastAssignment}
+use Rattle.deck.specs.Calls.{taskList, assignmentCause, leastFor, assignmentKind, assignmentTasks, ZeroFrom, AssignmentCall}
+use Rattle.deck.specs.declared.AssignmentKind.the-variants.{NoAssignment, Refused}
 use Rattle.deck.specs.declared.AssignmentAnswer.{AssignmentAnswer}
 use Rattle.meaning.specs.Meaning.{_at_}
-use Rattle.prices.specs.Square.{square, copied}
+use Rattle.prices.specs.Square.{copied}
 use Rattle.prices.proofs.Squares.{square-same}
 use Rattle.prices.proofs.Growth.{lower}
 use Rattle.partition.specs.Parts.{Part, partEntry, partTable, candidate, slotPart}

@@ -1,23 +1,21 @@
 -- The prices of the solver on plain weights serve the least assignment: row plus column price is at most each entry that is not
 -- barred, and equals it on the chosen ones. Assumes nothing.
 use Prim.Native.Nat.{ℕ, _+_, _≤_, _<_}
-use mathlib.Core.Path.{_≡_, refl, sym, ap, subst, _∙_}
-use mathlib.Core.Logic.{_⊎_, inl, inr, ⊎-elim, _≢_}
+use mathlib.Core.Path.{_≡_, refl, sym, ap, _∙_}
+use mathlib.Core.Logic.{_⊎_, inl, inr, ⊎-elim}
 use mathlib.Core.Bool.{true, false}
 use mathlib.Core.List.{List, map}
-use mathlib.Core.Option.{Option, none, some}
+use mathlib.Core.Option.{some}
 use native.Mathlib.Omega.{arith}
-use lib.ListN.{length, getD, take, replicate, List·getD-append}
-use lib.IntN.{ℤ, pos, negℤ, _+ℤ_}
-use lib.Signed.{mag, _≤ℤ_}
+use lib.ListN.{getD, take, List·getD-append}
+use lib.IntN.{ℤ, pos, _+ℤ_}
 use Rattle.deck.specs.Lists.{below, sum}
 use Rattle.deck.specs.Assignments.{barred, entryAt, sumOf, leastAssignment, Priced}
-use Rattle.deck.specs.Calls.{taskList, ZeroFrom, PricesOf, assignmentKind, assignmentTasks}
+use Rattle.deck.specs.Calls.{taskList, ZeroFrom, assignmentKind, assignmentTasks}
 use Rattle.deck.specs.declared.AssignmentKind.the-variants.{Least}
-use Rattle.deck.specs.declared.AssignmentAnswer.{AssignmentAnswer}
 use Rattle.meaning.specs.Meaning.{_at_, Assignment, Unbarred, Less}
 use Rattle.meaning.proofs.Assignments.{least-assignment-meant, sum-at}
-use Rattle.prices.specs.Matching.{cost, AtMost, Tight}
+use Rattle.prices.specs.Matching.{cost, AtMost}
 use Rattle.prices.specs.Weights.{heavy, weigh, weights}
 use Rattle.prices.specs.Square.{cell, copied}
 use Rattle.prices.proofs.Growth.{lower}

@@ -1,11 +1,11 @@
 -- What the solver finds on the weights of a table: by merged weights the first assignment in order, or that there is none. Assumes
 -- nothing.
-use Prim.Native.Nat.{ℕ, suc, _+_, _-_, _*_, _%_, _≤_, _<_}
-use mathlib.Core.Path.{_≡_, refl, sym, ap, subst, _∙_}
+use Prim.Native.Nat.{ℕ, _-_, _≤_, _<_}
+use mathlib.Core.Path.{_≡_, sym, ap, subst, _∙_}
 use mathlib.Core.Bool.{Bool, true, false}
 use mathlib.Core.List.{List}
-use mathlib.Core.Option.{Option, none, some}
-use native.Mathlib.Nat.{mul-le-mul-left, mul-le-mul-right}
+use mathlib.Core.Option.{none, some}
+use native.Mathlib.Nat.{mul-le-mul-left}
 use native.Mathlib.Decide.{ℕ-discrete}
 use native.Mathlib.Omega.{arith}
 use lib.ListN.{length, take}
@@ -13,7 +13,7 @@ use lib.Seq.{getD-take, length-take-le}
 use Rattle.deck.specs.Lists.{below}
 use Rattle.deck.specs.Assignments.{barred, entryAt, sumOf, leastAssignment}
 use Rattle.deck.specs.Calls.{taskList, noTasks}
-use Rattle.meaning.specs.Meaning.{_at_, Assignment, Unbarred}
+use Rattle.meaning.specs.Meaning.{_at_, Assignment}
 use Rattle.meaning.proofs.Lists.{mem-below}
 use Rattle.prices.specs.Matching.{cost, AtMost, Tight}
 use Rattle.prices.specs.Weights.{heavy, weigh, place, merged, weights, mergedWeights}
@@ -26,7 +26,7 @@ use Rattle.hungarian.specs.Solving.{Light, Solved}
 use Rattle.assignment.specs.declared.order.Candidate.{Candidate}
 use Rattle.tables.specs.Copies.{weightOf, Weighed}
 use Rattle.assignment.specs.Answers.{candidateFor}
-use Rattle.tables.proofs.Places.{places, places-right}
+use Rattle.tables.proofs.Places.{places-right}
 
 pub weigh-low : (e : ℕ) → e ≤ barred → weigh e ≤ heavy
 weigh-low e h = go (ℕ-discrete e barred)

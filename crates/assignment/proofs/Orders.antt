@@ -3,17 +3,17 @@ use Prim.Native.Nat.{ℕ, zero, suc, _+_, _-_, _≤_, _<_, suc-le-suc, zero-le}
 use mathlib.Core.Path.{_≡_, refl, sym, ap, subst, _∙_}
 use mathlib.Core.Logic.{_⊎_, inl, inr, ⊎-elim}
 use mathlib.Core.Bool.{Bool, true, false, cond}
-use mathlib.Core.List.{List, [], _∷_, _++_}
+use mathlib.Core.List.{List, [], _∷_}
 use mathlib.Core.Option.{some}
 use native.Mathlib.Nat.{le-of-suc-le-suc, suc-inj}
 use native.Mathlib.Omega.{arith}
-use lib.ListN.{length, getD, replicate, List·getD-append, getD-replicate}
+use lib.ListN.{length, replicate, List·getD-append, getD-replicate}
 use lib.Seq.{getD-append-add}
-use lib.Dec.{T, ltb}
-use borrow.Author.Tests.{ltb-true, ltb-false, lt-ltb, le-ltb}
+use lib.Dec.{ltb}
+use borrow.Author.Tests.{lt-ltb, le-ltb}
 use Rattle.deck.specs.Assignments.{sumOf}
 use Rattle.deck.specs.Calls.{taskList}
-use Rattle.meaning.specs.Meaning.{_at_, Assignment, StrictlyBefore, Less}
+use Rattle.meaning.specs.Meaning.{_at_, StrictlyBefore, Less}
 use Rattle.meaning.proofs.Tests.{Says}
 use Rattle.prices.proofs.Growth.{lower}
 use Rattle.assignment.specs.Answers.{lessFrom, earlier, candidateFor}

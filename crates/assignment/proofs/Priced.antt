@@ -1,7 +1,7 @@
 -- Prices as signed numbers: what is within their range, and the condition that prices have to keep. Assumes nothing.
 use Prim.Native.Nat.{ℕ, zero, suc, _+_, _-_, _≤_, _<_}
-use mathlib.Core.Path.{_≡_, refl, sym, ap, subst, _∙_}
-use mathlib.Core.Logic.{⊎-elim, _≢_}
+use mathlib.Core.Path.{_≡_, refl, ap, _∙_}
+use mathlib.Core.Logic.{⊎-elim}
 use mathlib.Core.Bool.{Bool, true, false, cond}
 use mathlib.Core.List.{List}
 use native.Mathlib.Nat.{eq-or-lt-of-le, le-of-suc-le-suc, not-suc-le-zero}
@@ -12,13 +12,12 @@ use lib.Seq.{getD-set-same, getD-set-other}
 use lib.IntN.{ℤ, pos, negsuc, negℤ, _+ℤ_, _-ℤ_, +ℤ-idl}
 use lib.Signed.{mag, _≤ℤ_, leZ-yes}
 use lib.Dec.{ltb, leb, le→leb}
-use borrow.Author.Tests.{lt-ltb, le-ltb}
+use borrow.Author.Tests.{le-ltb}
 use mir.Syntax.{w32}
 use mir.Val.{SFits, toZ, ofZ}
 use mir.ValLaws.{toZ-pos, toZ-ofZ}
 use Rattle.deck.specs.Calls.{ZeroFrom}
 use Rattle.prices.specs.Weights.{heavy}
-use Rattle.prices.proofs.Growth.{lower}
 use Rattle.meaning.specs.Meaning.{_at_}
 use Rattle.assignment.specs.Answers.{priceOf, Chosen}
 

@@ -3,19 +3,18 @@
 use Prim.Native.Nat.{ℕ, zero, suc, _≤_, _<_}
 use mathlib.Core.Path.{_≡_}
 use mathlib.Core.Bool.{Bool, true, false, cond}
-use mathlib.Core.List.{List, [], _∷_}
+use mathlib.Core.List.{List}
 use mathlib.Core.Option.{Option, none, some}
 use lib.ListN.{getD, replicate}
 use lib.IntN.{ℤ, pos, negℤ, _+ℤ_}
 use lib.Signed.{mag}
 use lib.Dec.{ltb}
-use Rattle.deck.specs.Assignments.{barred, sumOf, leastAssignment}
+use Rattle.deck.specs.Assignments.{sumOf, leastAssignment}
 use Rattle.deck.specs.Calls.{taskList, noTasks, assignmentKind, assignmentTasks, PricesOf}
 use Rattle.deck.specs.declared.AssignmentKind.{AssignmentKind}
 use Rattle.deck.specs.declared.AssignmentAnswer.{AssignmentAnswer}
 use Rattle.meaning.specs.Meaning.{_at_}
-use Rattle.prices.specs.Weights.{heavy, weigh, merged}
-use Rattle.prices.specs.Square.{cell}
+use Rattle.prices.specs.Weights.{heavy}
 use Rattle.assignment.specs.declared.order.Candidate.{Candidate}
 
 -- an assignment with its sum and the list of 12, or none

@@ -1,20 +1,16 @@
 -- The padded grid: no two places have one padded number, and the places around a place are one and one row apart; past the
 -- grid's edge lies the border. Assumes nothing.
 use Prim.Native.Nat.{ℕ, suc, _+_, _-_, _*_, _/_, _%_, _≤_, _<_}
-use mathlib.Core.Path.{_≡_, refl, sym, ap, _∙_, subst}
-use mathlib.Core.Logic.{_⊎_, inl, inr, ⊎-elim, _≢_}
-use mathlib.Core.Bool.{Bool, true, false, cond}
-use mathlib.Core.List.{List}
+use mathlib.Core.Path.{_≡_, sym, ap, _∙_}
+use mathlib.Core.Logic.{_⊎_, ⊎-elim}
 use native.Mathlib.Nat.{mod-lt, div-add-mod', suc-mul, add-mul, mul-add, mul-le-mul, mul-comm, mul-le-mul-right, add-div-right, div-eq-of-lt, div-lt-iff-lt-mul}
 use native.Mathlib.Omega.{arith}
-use lib.ListN.{getD}
 use lib.Dec.{T, leb, ltb, leb→le, le→leb, ltb→lt, lt→ltb}
-use borrow.Author.Tests.{leb-true, leb-false, ltb-true, ltb-false}
 use Rattle.deck.specs.Sheet.{Sheet, area}
 use Rattle.kernel.specs.Near.{hasAbove, hasLeft, hasRight, hasBelow}
 use Rattle.kernel.proofs.Choice.{lt-or-ge}
 use Rattle.kernel.proofs.Near.{wide-of, left-row, right-row}
-use Rattle.bars.specs.Padded.{padOf, Border, Holds}
+use Rattle.bars.specs.Padded.{padOf, Border}
 
 -- places of different rows lie more than two apart
 rows-apart : (w u v : ℕ) → 0 < w → u / w < v / w → padOf w u + 3 ≤ padOf w v

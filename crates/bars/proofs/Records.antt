@@ -2,18 +2,17 @@
 use Prim.Native.Nat.{ℕ, zero, suc, _+_, _/_, _≤_, _<_}
 use mathlib.Core.Path.{_≡_, refl, sym, ap₂, _∙_, subst}
 use mathlib.Core.Logic.{_≢_}
-use mathlib.Core.Bool.{Bool, true, false, cond, not, _&&_}
-use mathlib.Core.List.{List, map, List·Memᴰ as Mem}
+use mathlib.Core.Bool.{Bool, true, false, cond, _&&_}
+use mathlib.Core.List.{List, List·Memᴰ as Mem}
 use native.Mathlib.Nat.{le-antisymm}
 use native.Mathlib.Omega.{arith}
-use lib.ListN.{length, getD}
+use lib.ListN.{length}
 use lib.Dec.{T, eqb}
 use borrow.Author.Tests.{eq-eqb, ne-eqb}
-use Rattle.deck.specs.Lists.{below, greatest}
+use Rattle.deck.specs.Lists.{below}
 use Rattle.deck.specs.Sheet.{carrier}
 use Rattle.deck.specs.Calls.{recordWord, constraintOf, constraintAt, constraintsOf}
 use Rattle.deck.specs.declared.Constraint.{Constraint}
-use Rattle.deck.specs.declared.Constraint.the-variants.{Place, Move}
 use Rattle.meaning.proofs.Tests.{Says, says-eqb, says-and, says-not, is-true, is-false}
 use Rattle.meaning.proofs.Lists.{mem-map, map-mem, mem-below}
 use Rattle.kernel.specs.Parts.{freeMove, freePlace, stayAfter, stayFrom}

@@ -1,19 +1,19 @@
 -- What is cleared along a chain is what the carrier's constraints bar. Assumes nothing.
-use Prim.Native.Nat.{ℕ, zero, suc, _+_, _*_, _≤_, _<_}
+use Prim.Native.Nat.{ℕ, zero, suc, _+_, _<_}
 use mathlib.Core.Path.{_≡_, refl, sym, ap, _∙_, subst}
 use mathlib.Core.Logic.{_≢_}
 use mathlib.Core.Bool.{Bool, true, false, cond, not, _&&_, false≢true}
 use mathlib.Core.List.{List, [], _∷_, List·Memᴰ as Mem, List·Memᴰ·head as here, List·Memᴰ·tail as there}
 use native.Mathlib.Decide.{ℕ-discrete}
 use native.Mathlib.Omega.{arith}
-use lib.ListN.{length, getD}
+use lib.ListN.{getD}
 use lib.Dec.{T, eqb}
-use borrow.Author.Tests.{eqb-true, eqb-false}
+use borrow.Author.Tests.{eqb-true}
 use Rattle.deck.specs.Lists.{all}
 use Rattle.deck.specs.Sheet.{carrier}
-use Rattle.deck.specs.Calls.{recordWord, constraintOf, constraintAt, constraintsOf}
+use Rattle.deck.specs.Calls.{recordWord, constraintOf, constraintsOf}
 use Rattle.deck.specs.declared.Constraint.{Constraint}
-use Rattle.meaning.proofs.Tests.{Says, says-eqb, says-and}
+use Rattle.meaning.proofs.Tests.{says-eqb, says-and}
 use Rattle.kernel.specs.Parts.{barsPlace, barsMove, freePlace, freeMove}
 use Rattle.bars.specs.Padded.{padOf}
 use Rattle.bars.specs.Bars.{countIn, ownAt, movesFrom, wayOf, slotOf, moveSlot, placeSlot, Cleared}

@@ -2,8 +2,8 @@
 -- Assumes nothing.
 use Prim.Native.Nat.{ℕ, suc, _+_, _≤_, _<_, _^_, zero-le}
 use native.Mathlib.Nat.{not-suc-le-zero}
-use mathlib.Core.Path.{_≡_, refl, sym, ap, _∙_}
-use mathlib.Core.Logic.{_⊎_, inl, inr, ⊎-elim, _≢_}
+use mathlib.Core.Path.{_≡_, refl, sym, _∙_}
+use mathlib.Core.Logic.{_⊎_, inl, ⊎-elim, _≢_}
 use mathlib.Core.Bool.{Bool, true, false, cond, false≢true}
 use mathlib.Core.List.{List}
 use native.Mathlib.Decide.{ℕ-discrete}
@@ -13,7 +13,7 @@ use lib.Seq.{getD-set-same, getD-set-other}
 use lib.Dec.{eqb}
 use borrow.Author.Tests.{eq-eqb, ne-eqb}
 use Rattle.meaning.specs.Meaning.{_at_}
-use Rattle.prices.specs.Matching.{AtMost, Bounded, Put, Raised, LeastSlack, Matches, Tree, Turning}
+use Rattle.prices.specs.Matching.{Put, Raised, LeastSlack, Matches}
 use Rattle.prices.specs.Square.{cell}
 use Rattle.prices.proofs.Growth.{lower, bounded, some-outside, rows-fit, columns-fit, raised-matching, joined, last-tree, turn-begins, turn-ends, turn-next}
 use Rattle.hungarian.specs.declared.Edge.{Edge}

@@ -10,8 +10,7 @@ use Rattle.deck.specs.Paths.{mayStep}
 use Rattle.deck.specs.declared.Carrier.{Carrier}
 use Rattle.deck.specs.declared.Task.{Task}
 use Rattle.deck.specs.declared.Constraint.{Constraint}
-use Rattle.kernel.specs.Layers.{best, lift}
-use Rattle.kernel.specs.Goals.{up}
+use Rattle.kernel.specs.Layers.{best}
 use Rattle.kernel.specs.Parts.{freeMove, freePlace, stepFree}
 use Rattle.kernel.specs.Near.{near}
 use Rattle.kernel.specs.Kernel.{settle, fore, hind}

@@ -1,16 +1,13 @@
 -- Along the trace each step is allowed and keeps the time. Assumes nothing.
-use Prim.Native.Nat.{ℕ, zero, suc, _+_, _-_, _≤_, _<_, zero-le}
-use mathlib.Core.Path.{_≡_, refl, sym, ap, _∙_, subst}
-use mathlib.Core.Bool.{Bool, _&&_}
+use Prim.Native.Nat.{ℕ, suc, _+_, _-_, _≤_, zero-le}
+use mathlib.Core.Path.{_≡_, sym, subst}
 use mathlib.Core.List.{List, List·Memᴰ as Mem}
 use native.Mathlib.Omega.{arith}
-use lib.ListN.{length}
 use lib.Dec.{T, ltb→lt}
 use Rattle.deck.specs.Sheet.{Sheet, free, startOf, goalsOf, lastGoal}
 use Rattle.deck.specs.declared.Carrier.{Carrier}
 use Rattle.deck.specs.declared.Task.{Task}
 use Rattle.deck.specs.declared.Constraint.{Constraint}
-use Rattle.meaning.proofs.Tests.{Says}
 use Rattle.meaning.proofs.Paths.{free-meant}
 use Rattle.kernel.specs.Layers.{Parts, back, next, pass, firstOf, good}
 use Rattle.kernel.specs.Goals.{up}
@@ -19,8 +16,8 @@ use Rattle.kernel.specs.Kernel.{onward, OnTime, LeastTime}
 use Rattle.kernel.proofs.Both.{and-left, and-right}
 use Rattle.kernel.proofs.Choice.{first-passes}
 use Rattle.kernel.proofs.Labels.{up-le}
-use Rattle.kernel.proofs.Passes.{Laws, Ends, back-some, step-of}
-use Rattle.kernel.proofs.Trace.{Can, can-back, good-of}
+use Rattle.kernel.proofs.Passes.{Laws, back-some, step-of}
+use Rattle.kernel.proofs.Trace.{can-back, good-of}
 use Rattle.kernel.proofs.OfSheet.{InTime, step-free-meant, sheet-laws}
 use Rattle.kernel.proofs.Kernel.{onward-good, first-same}
 use Rattle.kernel.proofs.Least.{meets-can}

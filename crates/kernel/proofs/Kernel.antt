@@ -1,34 +1,26 @@
 -- The one function on layers, run forward and backward, gives the least path. Assumes nothing.
 use Prim.Native.Nat.{ℕ, zero, suc, _+_, _-_, _≤_, _<_, zero-le, max}
 use mathlib.Core.Path.{_≡_, refl, sym, ap, _∙_, subst}
-use mathlib.Core.Logic.{_↔_, _⊎_, inl, inr, ⊎-elim}
-use mathlib.Core.Bool.{Bool, true, false, cond, _&&_, _||_}
-use mathlib.Core.List.{List, [], _∷_, reverse, map, List·Memᴰ as Mem, List·Memᴰ·head as here, List·Memᴰ·tail as there}
-use mathlib.Core.Option.{Option, none, some}
-use native.Mathlib.Nat.{eq-or-lt-of-le, le-refl, le-trans}
+use mathlib.Core.Logic.{_↔_, _⊎_, ⊎-elim}
+use mathlib.Core.Bool.{Bool, true, false, cond, _&&_}
+use mathlib.Core.List.{List, [], _∷_, reverse}
+use native.Mathlib.Nat.{eq-or-lt-of-le, le-refl}
 use native.Mathlib.Omega.{arith}
 use lib.ListN.{length}
-use lib.Dec.{T, eqb, leb, ltb, ltb→lt, lt→ltb}
-use borrow.Author.Tests.{eqb-true, leb-true, leb-false}
-use Rattle.deck.specs.Lists.{greatest}
-use Rattle.deck.specs.Sheet.{Sheet, free, startOf, goalsOf, lastGoal}
-use Rattle.deck.specs.Paths.{leastPath, finishOf}
+use lib.Dec.{T, eqb, ltb, ltb→lt, lt→ltb}
+use borrow.Author.Tests.{eqb-true}
+use Rattle.deck.specs.Sheet.{Sheet, startOf, goalsOf, lastGoal}
 use Rattle.deck.specs.declared.Carrier.{Carrier}
 use Rattle.deck.specs.declared.Task.{Task}
 use Rattle.deck.specs.declared.Constraint.{Constraint}
-use Rattle.deck.specs.declared.Constraint.the-variants.{Place, Move}
-use Rattle.meaning.proofs.Tests.{Says}
-use Rattle.meaning.proofs.Paths.{free-meant}
 use Rattle.kernel.specs.Layers.{Parts, best, firstOf, lift, pass, front, back, rest, good, next, trace}
 use Rattle.kernel.specs.Goals.{up, lowered}
-use Rattle.kernel.specs.Parts.{freePlace, freeMove, stepFree, partsOf, stayAfter, stayFrom}
-use Rattle.kernel.specs.Kernel.{settle, seed, layer, fore, hind, onward, follow, pathAt}
+use Rattle.kernel.specs.Parts.{partsOf}
+use Rattle.kernel.specs.Kernel.{fore, hind, onward, follow}
 use Rattle.kernel.proofs.Both.{and-left, and-right, and-both, same-test}
 use Rattle.kernel.proofs.Labels.{up-le, up-mono, lowered-iff}
 use Rattle.kernel.proofs.Choice.{best-some, best-lift, lt-or-ge}
-use Rattle.kernel.proofs.Trace.{Can, At, front-can, can-front, back-can, can-back, traced-right, none-right}
 use Rattle.kernel.proofs.Reverse.{backward-as-forward}
-use Rattle.kernel.proofs.OfSheet.{InTime, LetsPlace, LetsMove, free-place-meant, free-move-meant, step-free-meant, sheet-laws, right-least}
 
 pub best-same : (ok : ℕ → Bool) (f g : ℕ → ℕ) → ((x : ℕ) → f x ≡ g x) → (l : List ℕ) → best ok f l ≡ best ok g l
 best-same ok f g h [] = refl

@@ -1,16 +1,16 @@
 -- The least time that the layers give, and the path traced from it, are the finish and the places of the least path.
 -- Assumes nothing.
 use Prim.Native.Nat.{ℕ, zero, suc, _+_, _-_, _≤_, _<_, zero-le}
-use mathlib.Core.Path.{_≡_, refl, sym, ap, _∙_, subst}
-use mathlib.Core.Logic.{_↔_, _⊎_, inl, inr, ⊎-elim}
+use mathlib.Core.Path.{_≡_, refl, sym, subst}
+use mathlib.Core.Logic.{_↔_, _⊎_, inl, ⊎-elim}
 use mathlib.Core.Bool.{Bool, true, false, cond, _&&_}
-use mathlib.Core.List.{List, [], _∷_, reverse, map, List·Memᴰ as Mem, List·Memᴰ·head as here, List·Memᴰ·tail as there, List·Memᴰ·not-nil as not-nil}
+use mathlib.Core.List.{List, [], _∷_, map, List·Memᴰ as Mem, List·Memᴰ·head as here, List·Memᴰ·tail as there}
 use mathlib.Core.Option.{Option, none, some}
 use native.Mathlib.Nat.{eq-or-lt-of-le, le-trans}
 use native.Mathlib.Omega.{arith}
 use lib.ListN.{length}
 use lib.Dec.{T, eqb, leb, ltb, leb→le, le→leb, ltb→lt, lt→ltb}
-use borrow.Author.Tests.{leb-true, leb-false, eq-eqb}
+use borrow.Author.Tests.{leb-true, leb-false}
 use Rattle.deck.specs.Lists.{greatest}
 use Rattle.deck.specs.Sheet.{Sheet, area, free, startOf, goalsOf, lastGoal}
 use Rattle.deck.specs.Paths.{leastPath, finishOf}
@@ -21,18 +21,18 @@ use Rattle.deck.specs.declared.Constraint.the-variants.{Place, Move}
 use Rattle.meaning.specs.Meaning.{Free, PathUnder, LeastPath}
 use Rattle.meaning.proofs.Tests.{Says, says-eqb, says-and, is-true}
 use Rattle.meaning.proofs.Lists.{mem-map, map-mem}
-use Rattle.meaning.proofs.Paths.{free-meant, path-finish}
+use Rattle.meaning.proofs.Paths.{free-meant}
 use Rattle.meaning.proofs.LeastPath.{LeastMeant, least-path-meant}
-use Rattle.kernel.specs.Layers.{Parts, best, lift, pass, front, back, rest, trace}
+use Rattle.kernel.specs.Layers.{Parts, pass, back, rest, trace}
 use Rattle.kernel.specs.Goals.{up, lowered}
-use Rattle.kernel.specs.Parts.{freePlace, freeMove, stepFree, partsOf, stayAfter, stayFrom}
-use Rattle.kernel.specs.Kernel.{settle, fore, hind, follow, pathAt, meetsAt, LeastTime, NoEarlier}
+use Rattle.kernel.specs.Parts.{freeMove, stepFree, partsOf, stayAfter, stayFrom}
+use Rattle.kernel.specs.Kernel.{fore, hind, pathAt, meetsAt, LeastTime, NoEarlier}
 use Rattle.kernel.proofs.Both.{and-left, and-right, and-both}
 use Rattle.kernel.proofs.Choice.{lt-or-ge}
 use Rattle.kernel.proofs.Labels.{up-le, lowered-iff}
 use Rattle.kernel.proofs.Passes.{Laws}
-use Rattle.kernel.proofs.Trace.{Can, At, can-at, at-can, front-can, can-front, back-can, can-back, traced-right, none-right}
-use Rattle.kernel.proofs.Finish.{Served, finishAt, served-at, at-served}
+use Rattle.kernel.proofs.Trace.{Can, can-at, at-can, front-can, can-front, back-can, can-back, traced-right, none-right}
+use Rattle.kernel.proofs.Finish.{finishAt, served-at, at-served}
 use Rattle.kernel.proofs.OfSheet.{InTime, LetsPlace, LetsMove, free-place-meant, free-move-meant, step-free-meant, sheet-laws, settled-start, settled-step, path-of, right-least}
 use Rattle.kernel.proofs.Kernel.{fore-front, hind-back, follow-trace, rest-iff}
 

@@ -1,8 +1,8 @@
 -- The places around a place are those to which, and from which, a step may go; they stand rising. Assumes nothing.
 use Prim.Native.Nat.{ℕ, zero, suc, _+_, _-_, _*_, _/_, _%_, _≤_, _<_}
-use mathlib.Core.Path.{_≡_, refl, sym, ap, _∙_, subst}
+use mathlib.Core.Path.{_≡_, refl, sym, ap, _∙_}
 use mathlib.Core.Logic.{_⊎_, inl, inr, ⊎-elim}
-use mathlib.Core.Bool.{Bool, true, false, cond}
+use mathlib.Core.Bool.{Bool, true, false}
 use mathlib.Core.List.{List, [], _∷_, List·Memᴰ as Mem, List·Memᴰ·head as here, List·Memᴰ·tail as there, List·Memᴰ·not-nil as not-nil, List·Memᴰ·cases-cons as cases-cons}
 use native.Mathlib.Nat.{mod-lt, div-add-mod', suc-mul, zero-mul, mul-comm, mul-le-mul-right, div-lt-iff-lt-mul, add-div-right, add-mod-right, mul-add-div-right, mul-add-mod-self-right, mod-eq-of-lt, div-eq-of-lt}
 use native.Mathlib.Omega.{arith}

@@ -1,21 +1,21 @@
 -- The two passes with the parts of a sheet answer the least path of the definitions. Assumes nothing.
 use Prim.Native.Nat.{ℕ, zero, suc, _+_, _≤_, _<_, zero-le}
 use mathlib.Core.Path.{_≡_, refl, sym, ap, _∙_, subst}
-use mathlib.Core.Logic.{_⊎_, inl, inr, ⊎-elim, _≢_}
-use mathlib.Core.Bool.{Bool, _&&_, not}
+use mathlib.Core.Logic.{_⊎_, ⊎-elim, _≢_}
+use mathlib.Core.Bool.{_&&_, not}
 use mathlib.Core.List.{List, [], _∷_, List·Memᴰ as Mem}
 use mathlib.Core.Option.{Option, none, some}
 use native.Mathlib.Nat.{not-suc-le-zero, le-refl}
 use native.Mathlib.Omega.{arith}
 use lib.ListN.{length, drop, drop-of-length-le}
-use lib.Dec.{T, not-T, T-not}
-use Rattle.deck.specs.Sheet.{Sheet, area, free, startOf, goalsOf, lastGoal}
-use Rattle.deck.specs.Paths.{mayStep, left, finish, finishOf, leastPath}
+use lib.Dec.{T}
+use Rattle.deck.specs.Sheet.{Sheet, free, startOf, goalsOf, lastGoal}
+use Rattle.deck.specs.Paths.{left, leastPath}
 use Rattle.deck.specs.declared.Carrier.{Carrier}
 use Rattle.deck.specs.declared.Task.{Task}
 use Rattle.deck.specs.declared.Constraint.{Constraint}
 use Rattle.deck.specs.declared.Constraint.the-variants.{Place, Move}
-use Rattle.meaning.specs.Meaning.{_at_, Free, Step, Before, Path, Keeps, PathUnder, LeastPath}
+use Rattle.meaning.specs.Meaning.{_at_, Free, Step, Before, Keeps, PathUnder, LeastPath}
 use Rattle.meaning.proofs.Tests.{Says, says-eqb, says-and, says-not, says-iff}
 use Rattle.meaning.proofs.ListTests.{says-all}
 use Rattle.meaning.proofs.Finish.{finish-meant}

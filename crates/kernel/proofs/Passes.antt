@@ -1,15 +1,14 @@
 -- The two passes mean what they should. Assumes nothing.
-use Prim.Native.Nat.{ℕ, zero, suc, _+_, _-_, _≤_, _<_, zero-le}
-use mathlib.Core.Path.{_≡_, refl, sym, ap, _∙_, subst}
-use mathlib.Core.Logic.{_↔_, _⊎_, inl, inr, ⊎-elim}
+use Prim.Native.Nat.{ℕ, zero, suc, _+_, _-_, _≤_, _<_}
+use mathlib.Core.Path.{_≡_, refl}
 use mathlib.Core.Bool.{Bool, true, false, cond, _&&_}
 use mathlib.Core.List.{List, [], _∷_, List·Memᴰ as Mem}
 use native.Mathlib.Nat.{not-suc-le-zero}
 use native.Mathlib.Omega.{arith}
 use lib.Dec.{T, eqb, eqb→eq, eqb-refl}
-use Rattle.kernel.proofs.Both.{and-left, and-right, and-both}
+use Rattle.kernel.proofs.Both.{and-left}
 use Rattle.meaning.proofs.Lists.{Sorted}
-use Rattle.kernel.specs.Layers.{Parts, best, pass, lift, front, back}
+use Rattle.kernel.specs.Layers.{Parts, pass, lift, front, back}
 use Rattle.kernel.proofs.Choice.{best-some, best-all, lift-mono}
 
 -- what the passes assume of their parts

@@ -1,24 +1,21 @@
 -- Without constraints the backward layers rest on neither the time nor the carrier, so that one pass for each task gives its
 -- column of the table. Assumes nothing.
 use Prim.Native.Nat.{ℕ, zero, suc, _+_, _-_, _≤_, _<_}
-use mathlib.Core.Path.{_≡_, refl, ap, _∙_}
-use mathlib.Core.Logic.{⊎-elim}
+use mathlib.Core.Path.{_≡_, refl, ap}
 use mathlib.Core.Bool.{true, _&&_}
 use mathlib.Core.List.{[], reverse, List·Memᴰ as Mem, List·Memᴰ·not-nil as not-nil}
-use mathlib.Core.Option.{none, some}
 use native.Mathlib.Omega.{arith}
 use lib.ListN.{length}
 use lib.Dec.{T}
 use Rattle.deck.specs.Sheet.{Sheet, free, startOf, goalsOf, lastGoal}
-use Rattle.deck.specs.Paths.{leastPath, finishOf}
+use Rattle.deck.specs.Paths.{leastPath}
 use Rattle.deck.specs.Assignments.{barred, entryOf}
 use Rattle.deck.specs.declared.Carrier.{Carrier}
 use Rattle.deck.specs.declared.Task.{Task}
 use Rattle.deck.specs.declared.Constraint.{Constraint}
-use Rattle.kernel.specs.Layers.{best}
 use Rattle.kernel.specs.Parts.{freePlace, freeMove, stepFree, stayFrom}
 use Rattle.kernel.specs.Near.{near}
-use Rattle.kernel.specs.Kernel.{settle, hind, meetsAt, LeastTime}
+use Rattle.kernel.specs.Kernel.{settle, hind, LeastTime}
 use Rattle.kernel.proofs.Kernel.{best-same}
 use Rattle.kernel.proofs.OfSheet.{InTime}
 use Rattle.kernel.proofs.Least.{meets-can, hind-can, time-path, time-finish, no-time-none}

@@ -1,22 +1,19 @@
 -- The trace is the first walk among those that finish first. Assumes nothing.
-use Prim.Native.Nat.{ℕ, zero, suc, _+_, _-_, _≤_, _<_, zero-le}
-use mathlib.Core.Path.{_≡_, refl, sym, ap, _∙_, subst}
-use mathlib.Core.Logic.{_↔_, _⊎_, inl, inr, ⊎-elim}
-use mathlib.Core.Bool.{Bool, true, false, cond, _&&_}
-use mathlib.Core.List.{List, [], _∷_, List·Memᴰ as Mem}
+use Prim.Native.Nat.{ℕ, zero, suc, _+_, _-_, _≤_, _<_}
+use mathlib.Core.Path.{_≡_, refl, sym, subst}
+use mathlib.Core.Logic.{_⊎_, inl, inr}
+use mathlib.Core.List.{List, [], _∷_}
 use mathlib.Core.Option.{Option, none, some}
-use native.Mathlib.Nat.{not-suc-le-zero, eq-or-lt-of-le, le-refl}
+use native.Mathlib.Nat.{eq-or-lt-of-le}
 use native.Mathlib.Omega.{arith}
-use lib.ListN.{length, replicate, length-replicate}
-use lib.Dec.{T, eqb, eqb→eq, eqb-refl, ltb→lt, lt→ltb}
-use Rattle.deck.specs.Lists.{all}
-use Rattle.deck.specs.Paths.{finish}
+use lib.ListN.{replicate}
+use lib.Dec.{T, ltb→lt, lt→ltb}
 use Rattle.meaning.specs.Meaning.{Before}
 use Rattle.meaning.proofs.Before.{before-refl}
 use Rattle.kernel.proofs.Both.{and-left, and-right, and-both}
 use Rattle.kernel.specs.Layers.{Parts, pass, front, back, rest, good, next, trace}
-use Rattle.kernel.proofs.Choice.{lt-or-ge, first-passes, first-least}
-use Rattle.kernel.proofs.Passes.{Laws, Goes, after, Reach, Ends, step-of, front-some, front-all, back-some, back-all}
+use Rattle.kernel.proofs.Choice.{first-passes, first-least}
+use Rattle.kernel.proofs.Passes.{Laws, Reach, Ends, step-of, front-some, front-all, back-some, back-all}
 
 module _ (w : Parts) where
   -- q, after u at t with the label k, is on the last goal n steps later with all goals visited, and then stays there m steps

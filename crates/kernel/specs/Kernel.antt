@@ -3,7 +3,7 @@
 use Prim.Native.Nat.{ℕ, zero, suc, _+_, _≤_, _<_}
 use mathlib.Core.Path.{_≡_}
 use mathlib.Core.Bool.{Bool, cond, _&&_}
-use mathlib.Core.List.{List, [], _∷_, reverse}
+use mathlib.Core.List.{List, _∷_, reverse}
 use mathlib.Core.Option.{some}
 use lib.ListN.{length, replicate}
 use lib.Dec.{T, eqb, leb, ltb}

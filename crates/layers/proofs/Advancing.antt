@@ -8,25 +8,25 @@ use native.Mathlib.Nat.{le-trans}
 use native.Mathlib.Omega.{arith}
 use lib.ListN.{length, getD, set, replicate, length-set, length-replicate, getD-replicate, List·getD-eq-default}
 use lib.Seq.{getD-set-same, getD-set-other}
-use lib.Dec.{T, eqb}
+use lib.Dec.{eqb}
 use borrow.Author.Tests.{eq-eqb, ne-eqb}
 use native.Mathlib.Decide.{ℕ-discrete}
-use Rattle.deck.specs.Sheet.{Sheet, area, free, carrier}
+use Rattle.deck.specs.Sheet.{Sheet, free, carrier}
 use Rattle.deck.specs.Calls.{recordWord, constraintsOf}
 use Rattle.kernel.specs.Layers.{lift}
 use Rattle.kernel.specs.Goals.{up}
-use Rattle.kernel.specs.Parts.{freePlace, freeMove}
+use Rattle.kernel.specs.Parts.{freePlace}
 use Rattle.kernel.proofs.Choice.{lt-or-ge}
-use Rattle.bars.specs.Padded.{padOf, Border, Holds, MaskOf}
-use Rattle.bars.specs.Bars.{countIn, wayOf, slotOf, moveSlot, placeSlot, OnLayer, Chained, Cleared}
+use Rattle.bars.specs.Padded.{padOf}
+use Rattle.bars.specs.Bars.{wayOf, moveSlot, placeSlot, OnLayer, Chained, Cleared}
 use Rattle.bars.proofs.Grid.{pad-inj, pad-most, size-of, size-small}
 use Rattle.bars.proofs.Walks.{none-after}
 use Rattle.bars.proofs.Records.{move-none}
 use Rattle.bars.proofs.Slots.{way-shut, place-cleared}
 use Rattle.layers.specs.Fill.{Filled}
 use Rattle.layers.specs.Spread.{spreadAt, spreadBy}
-use Rattle.layers.specs.Raise.{raisedBy, Raised, GoalsAt}
-use Rattle.layers.specs.Step.{around, nextLayer, Ground, Labels, Margin, Copies, Advanced, Stepped, Seeded}
+use Rattle.layers.specs.Raise.{Raised, GoalsAt}
+use Rattle.layers.specs.Step.{around, Margin, Copies, Advanced, Stepped, Seeded}
 use Rattle.layers.proofs.Raising.{raise-none, raised-up}
 use Rattle.layers.proofs.Stepping.{moveFree, plain-holds, ways-holds}
 

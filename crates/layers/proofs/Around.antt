@@ -1,6 +1,6 @@
 -- The greatest label around a place of the grid, read on the padded grid. Assumes nothing.
-use Prim.Native.Nat.{ℕ, suc, _+_, _-_, _≤_, _<_, max, min}
-use mathlib.Core.Path.{_≡_, refl, sym, ap, ap₂, _∙_, subst}
+use Prim.Native.Nat.{ℕ, _+_, _-_, _<_, max, min}
+use mathlib.Core.Path.{_≡_, refl, sym, ap, _∙_, subst}
 use mathlib.Core.Logic.{_⊎_, inl, inr}
 use mathlib.Core.Bool.{Bool, true, false, cond, _&&_}
 use mathlib.Core.List.{List, [], _∷_}
@@ -9,7 +9,7 @@ use lib.ListN.{getD}
 use lib.Dec.{T, ltb→lt}
 use Rattle.deck.specs.Sheet.{Sheet, area, free}
 use Rattle.meaning.specs.Meaning.{Beside, Free}
-use Rattle.meaning.proofs.Tests.{Says, is-true, is-false}
+use Rattle.meaning.proofs.Tests.{is-true, is-false}
 use Rattle.meaning.proofs.Paths.{free-meant}
 use Rattle.kernel.specs.Layers.{best}
 use Rattle.kernel.specs.Near.{consIf, hasAbove, hasLeft, hasRight, hasBelow, near}

@@ -1,14 +1,14 @@
 -- A layer that is kept is read back, and stays where other words are written. Assumes nothing.
 use Prim.Native.Nat.{ℕ, _+_, _-_, _*_, _/_, _%_, _≤_, _<_}
-use mathlib.Core.Path.{_≡_, refl, sym, ap, _∙_, subst}
+use mathlib.Core.Path.{_≡_, ap, _∙_}
 use mathlib.Core.List.{List}
 use native.Mathlib.Nat.{mul-add, add-mul, mul-le-mul-right}
 use native.Mathlib.Omega.{arith}
-use lib.ListN.{length, getD}
+use lib.ListN.{getD}
 use Rattle.deck.specs.Sheet.{Sheet, area}
 use Rattle.bars.specs.Padded.{padOf, Holds}
 use Rattle.bars.proofs.Grid.{pad-least, pad-most}
-use Rattle.layers.specs.Packed.{byteIn, keptAt, Kept, wordsFor, Laid}
+use Rattle.layers.specs.Packed.{byteIn, Kept, wordsFor, Laid}
 
 -- the words that are kept reach over the rows of the grid
 words-reach : (w h : ℕ) → (w + 2) * h ≤ 4 * wordsFor w h

@@ -1,15 +1,15 @@
 -- Raising a layer goal by goal raises each label as far as its place raises it. Assumes nothing.
 use Prim.Native.Nat.{ℕ, zero, suc, _≤_, _<_}
-use mathlib.Core.Path.{_≡_, refl, sym, ap, _∙_, subst}
+use mathlib.Core.Path.{_≡_, refl, sym, ap, _∙_}
 use mathlib.Core.Logic.{⊎-elim}
 use mathlib.Core.Bool.{Bool, true, false, cond, _&&_}
 use mathlib.Core.List.{List, [], _∷_, _++_}
 use native.Mathlib.Omega.{arith}
 use lib.ListN.{length, getD, take}
 use lib.Seq.{take-suc, take-all, length-take-le}
-use lib.Dec.{T, eqb, eqb·suc-suc, eqb·zero-suc}
+use lib.Dec.{eqb, eqb·suc-suc, eqb·zero-suc}
 use borrow.Author.Tests.{ne-eqb, eqb-true}
-use Rattle.meaning.proofs.Tests.{Says, says-eqb}
+use Rattle.meaning.proofs.Tests.{says-eqb}
 use Rattle.kernel.specs.Layers.{lift}
 use Rattle.kernel.specs.Goals.{up}
 use Rattle.kernel.proofs.Both.{same-test}

@@ -1,36 +1,28 @@
 -- The step of the code on the padded grid is the step of the layer on the grid. Assumes nothing.
-use Prim.Native.Nat.{ℕ, suc, _+_, _-_, _*_, _≤_, _<_, max, min}
+use Prim.Native.Nat.{ℕ, _+_, _-_, _*_, _≤_, _<_, max, min}
 use mathlib.Core.Path.{_≡_, refl, sym, ap, ap₂, _∙_, subst}
 use mathlib.Core.Logic.{_⊎_, inl, inr, ⊎-elim}
 use mathlib.Core.Bool.{Bool, true, false, cond, _&&_}
 use mathlib.Core.List.{List}
 use native.Mathlib.Omega.{arith}
-use lib.ListN.{length, getD}
+use lib.ListN.{getD}
 use lib.Dec.{T, ltb→lt}
-use Rattle.deck.specs.Sheet.{Sheet, area, free, carrier}
-use Rattle.deck.specs.Calls.{recordWord, constraintsOf}
+use Rattle.deck.specs.Sheet.{Sheet, area, free}
 use Rattle.deck.specs.declared.Carrier.{Carrier}
 use Rattle.deck.specs.declared.Constraint.{Constraint}
 use Rattle.meaning.specs.Meaning.{Beside}
-use Rattle.meaning.proofs.Tests.{is-false}
-use Rattle.kernel.specs.Layers.{best, lift}
-use Rattle.kernel.specs.Goals.{up}
-use Rattle.kernel.specs.Near.{hasAbove, hasLeft, hasRight, hasBelow, near}
-use Rattle.kernel.specs.Parts.{freePlace, freeMove, stepFree}
-use Rattle.kernel.specs.Kernel.{settle}
+use Rattle.kernel.specs.Near.{hasAbove, hasLeft, hasRight, hasBelow}
+use Rattle.kernel.specs.Parts.{freeMove, stepFree}
 use Rattle.kernel.proofs.Choice.{lt-or-ge}
-use Rattle.kernel.proofs.Near.{wide-of, right-inside, beside-turned, above-beside, left-beside, right-beside, below-beside}
+use Rattle.kernel.proofs.Near.{right-inside, beside-turned, above-beside, left-beside, right-beside, below-beside}
 use Rattle.bars.specs.Padded.{padOf, Border, Holds, MaskOf}
-use Rattle.bars.specs.Bars.{countIn, wayOf, slotOf, moveSlot, placeSlot, OnLayer, Cleared}
+use Rattle.bars.specs.Bars.{wayOf, slotOf}
 use Rattle.bars.proofs.Grid.{pad-least, pad-most, pad-above, pad-left, pad-right, pad-below}
 use Rattle.bars.proofs.Ways.{way-above, way-left, way-same, way-right, way-below}
-use Rattle.bars.proofs.Slots.{moveBy, way-shut, place-cleared}
 use Rattle.layers.specs.Fill.{Filled}
 use Rattle.layers.specs.Spread.{spreadAt, spreadBy}
-use Rattle.layers.specs.Raise.{raisedBy, Raised, GoalsAt}
-use Rattle.layers.specs.Step.{mayGo, around, nextLayer, Ground, Labels, Margin, Copies}
+use Rattle.layers.specs.Step.{mayGo, around, Labels, Margin}
 use Rattle.layers.proofs.Around.{best-near, from-above, from-left, from-right, from-below, step-near, way-term}
-use Rattle.layers.proofs.Raising.{raise-none, raised-up}
 
 min-max : (a b m : ℕ) → min (max a b) m ≡ max (min a m) (min b m)
 min-max a b m = omega arith

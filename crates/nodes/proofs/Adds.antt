@@ -1,36 +1,30 @@
 -- A record more is a node more of the search's definition: a child, and a root. Assumes nothing.
 use mathlib.Core.Path.{_≡_, refl, sym, _∙_, ap, ap₂, subst}
-use mathlib.Core.Bool.{Bool, true, false, not}
+use mathlib.Core.Bool.{Bool, true, false}
 use mathlib.Core.List.{List, [], _∷_, _++_, map, List·Memᴰ as Mem}
-use mathlib.Core.Option.{Option, none, some}
-use Prim.Native.Nat.{ℕ, zero, suc, _+_, _*_, _-_, _<_, _≤_, _%_}
+use Prim.Native.Nat.{ℕ, suc, _+_, _*_, _-_, _<_, _≤_, _%_}
 use native.Mathlib.Nat.{mod-eq-of-lt, zero-add}
 use native.Mathlib.Numerals.{add-one}
 use native.Mathlib.Decide.{ℕ-discrete}
 use native.Mathlib.Omega.{arith}
-use lib.Dec.{eqb, ltb}
-use lib.ListN.{length, getD, set, take, drop, replicate, length-append, length-set, length-replicate, getD-replicate, List·getD-append, List·getD-eq-default}
-use lib.Seq.{getD-set-same, getD-set-other, take-at, getD-append-add}
+use lib.Dec.{ltb}
+use lib.ListN.{length, getD, set, length-set}
+use lib.Seq.{getD-set-same, getD-set-other}
 use borrow.Author.Tests.{ne-eqb, ltb-true, ltb-false}
-use Rattle.deck.specs.Lists.{countFrom, below, sum, select}
-use Rattle.deck.specs.Sheet.{Sheet, carrier, task, startOf}
-use Rattle.deck.specs.Paths.{walks, leastPath, finishOf}
-use Rattle.deck.specs.Search.{Node, flowtime, pathOr, rootPaths, rootOf, childNode}
-use Rattle.deck.specs.Planner.{problem, boundBy}
-use Rattle.deck.specs.Calls.{taskList}
+use Rattle.deck.specs.Lists.{countFrom, sum, select}
+use Rattle.deck.specs.Sheet.{Sheet, carrier, startOf}
+use Rattle.deck.specs.Paths.{walks}
+use Rattle.deck.specs.Search.{Node}
 use Rattle.deck.specs.declared.Constraint.{Constraint}
-use Rattle.deck.specs.declared.Constraint.the-variants.{Place, Move}
-use Rattle.pack.specs.Pack.{packOf, unpackOf}
-use Rattle.pack.proofs.Trips.{length-pack}
+use Rattle.pack.specs.Pack.{packOf}
 use Rattle.records.specs.Cut.{part, put}
-use Rattle.records.specs.Record.{layout, fields, fieldsAt, linkIn, rootIn, ownIn, tasksIn, finishesIn, packedIn, wordsOf, Small, withPath, childFields, rootFields, keyAt, closedKey, withKey, Wrote}
+use Rattle.records.specs.Record.{fieldsAt, linkIn, ownIn, finishesIn, packedIn, keyAt, closedKey, withKey, Wrote}
 use Rattle.records.proofs.Cuts.{part-here, part-behind, part-before}
-use Rattle.records.proofs.Frames.{key-same, key-other, key-record, length-field}
-use Rattle.records.proofs.Words.{held-again}
-use Rattle.nodes.specs.Nodes.{upward, constraintsAt, pathOf, pathsOf, assignmentOf, costOf, nodeOf, nodeAt, isOpen, openNumbers, openedAt}
-use Rattle.nodes.specs.Stored.{Fits, Good, Sound, Stored, Added, ChildOf, RootSoFar}
-use Rattle.nodes.proofs.Tables.{map-same, map-select-same, map-set, map-append, count-snoc, select-append, select-same}
-use Rattle.nodes.proofs.Grid.{walk-long, read-back, least-walk}
+use Rattle.records.proofs.Frames.{key-same, key-other, key-record}
+use Rattle.nodes.specs.Nodes.{upward, constraintsAt, pathOf, costOf, nodeOf, nodeAt, isOpen, openNumbers, openedAt}
+use Rattle.nodes.specs.Stored.{Fits, Sound, Stored, Added}
+use Rattle.nodes.proofs.Tables.{map-select-same, map-append, count-snoc, select-append, select-same}
+use Rattle.nodes.proofs.Grid.{read-back}
 use Rattle.nodes.proofs.Chains.{stored-links, node-same, chain-more}
 use Rattle.nodes.proofs.Costs.{cost-small, finishes-sum}
 

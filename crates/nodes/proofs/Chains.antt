@@ -1,14 +1,14 @@
 -- The constraints along the links. Assumes nothing.
 use mathlib.Core.Path.{_≡_, refl, sym, _∙_, ap}
-use mathlib.Core.List.{List, [], _∷_, _++_, List·Memᴰ as Mem, List·Memᴰ·not-nil as not-nil, List·Memᴰ·head as here, List·Memᴰ·tail as there}
-use Prim.Native.Nat.{ℕ, zero, suc, _+_, _-_, _<_, _≤_}
+use mathlib.Core.List.{List, [], _∷_, List·Memᴰ as Mem, List·Memᴰ·not-nil as not-nil, List·Memᴰ·head as here, List·Memᴰ·tail as there}
+use Prim.Native.Nat.{ℕ, zero, suc, _-_, _<_, _≤_}
 use native.Mathlib.Omega.{arith}
 use lib.ListN.{length}
 use Rattle.deck.specs.Sheet.{Sheet}
 use Rattle.deck.specs.declared.Constraint.{Constraint}
-use Rattle.records.specs.Record.{fieldsAt, linkIn, ownIn, Small}
-use Rattle.nodes.specs.Nodes.{upward, constraintsFrom, constraintsAt, nodeOf, nodeAt}
-use Rattle.nodes.specs.Stored.{Good, Linked, Sound, Stored}
+use Rattle.records.specs.Record.{fieldsAt, linkIn, ownIn}
+use Rattle.nodes.specs.Nodes.{upward, constraintsFrom, constraintsAt, nodeAt}
+use Rattle.nodes.specs.Stored.{Good, Linked, Stored}
 
 -- links of the first `made` records lead to earlier ones
 abbrev pub Links : (ℕ → List (List ℕ)) → ℕ → Type 0

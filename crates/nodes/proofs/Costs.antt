@@ -1,21 +1,20 @@
 -- The cost of a record's node: the sum of its finishes, and less than the key of a closed node. Assumes nothing.
-use mathlib.Core.Path.{_≡_, refl, sym, _∙_, ap}
-use mathlib.Core.List.{List, [], _∷_, _++_, map}
-use Prim.Native.Nat.{ℕ, zero, suc, _+_, _*_, _<_, _≤_}
+use mathlib.Core.Path.{_≡_, sym, _∙_, ap}
+use mathlib.Core.List.{List, [], map}
+use Prim.Native.Nat.{ℕ, _+_, _<_, _≤_}
 use native.Mathlib.Nat.{zero-add}
 use native.Mathlib.Omega.{arith}
-use lib.ListN.{length, getD, take}
+use lib.ListN.{length, getD}
 use lib.Seq.{getD-take}
-use Rattle.deck.specs.Lists.{countFrom, below, sum}
+use Rattle.deck.specs.Lists.{below, sum}
 use Rattle.deck.specs.Sheet.{Sheet, task, lastGoal}
-use Rattle.deck.specs.Paths.{finish, finishOf}
-use Rattle.deck.specs.Search.{flowtime, taskOf, pathAt}
+use Rattle.deck.specs.Paths.{finishOf}
 use Rattle.deck.specs.Planner.{problem}
 use Rattle.meaning.proofs.Lists.{getD-tabulate}
 use Rattle.meaning.proofs.Finish.{finish-least}
 use Rattle.pack.proofs.Trips.{length-unpack}
 use Rattle.records.specs.Record.{tasksIn, finishesIn, packedIn}
-use Rattle.nodes.specs.Nodes.{pathOf, pathsOf, assignmentOf, costOf}
+use Rattle.nodes.specs.Nodes.{pathOf, pathsOf, costOf}
 use Rattle.nodes.specs.Stored.{Fits, Sound}
 use Rattle.nodes.proofs.Tables.{map-same, sum-most, sum-table}
 

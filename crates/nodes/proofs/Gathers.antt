@@ -1,30 +1,27 @@
 -- The records of constraints that are gathered along the links. Assumes nothing.
 use mathlib.Core.Path.{_≡_, refl, sym, _∙_, ap, ap₂}
-use mathlib.Core.Bool.{Bool, true, false, cond}
+use mathlib.Core.Bool.{true, false}
 use mathlib.Core.List.{List, [], _∷_, _++_, map, append-assoc, append-nil}
-use Prim.Native.Nat.{ℕ, zero, suc, _+_, _*_, _-_, _/_, _%_, _<_, _≤_}
-use native.Mathlib.Nat.{mod-eq-of-lt, add-zero, zero-add, add-assoc}
-use native.Mathlib.Numerals.{add-one}
+use Prim.Native.Nat.{ℕ, suc, _+_, _*_, _-_, _/_, _%_, _<_, _≤_}
+use native.Mathlib.Nat.{mod-eq-of-lt, add-zero, zero-add}
 use native.Mathlib.Omega.{arith}
-use lib.Dec.{eqb}
-use lib.ListN.{length, getD, set, take, drop, length-append, length-take, List·getD-append}
+use lib.ListN.{length, getD, take, drop, length-append, List·getD-append}
 use lib.Seq.{take-at, length-take-le, getD-append-add}
 use borrow.Author.Tests.{eq-eqb, ne-eqb}
 use Rattle.deck.specs.Lists.{countFrom, below, select, each}
-use Rattle.deck.specs.Sheet.{carrier}
 use Rattle.deck.specs.Planner.{boundBy}
-use Rattle.deck.specs.Calls.{constraintsOf, constraintAt, recordWord, constraintOf}
+use Rattle.deck.specs.Calls.{constraintsOf, constraintAt, recordWord}
 use Rattle.deck.specs.declared.Carrier.{Carrier}
 use Rattle.deck.specs.declared.Constraint.{Constraint}
 use Rattle.deck.specs.declared.Constraint.the-variants.{Place, Move}
-use Rattle.records.specs.Cut.{part, put}
+use Rattle.records.specs.Cut.{put}
 use Rattle.records.specs.Record.{fieldsAt, linkIn, ownIn, headIn, constraintIn, wordsOf, Small}
 use Rattle.records.specs.declared.NodeHead.{NodeHead}
 use Rattle.records.proofs.Words.{held-again, length-words}
-use Rattle.nodes.specs.Nodes.{constraintsFrom, constraintsAt, binds, bindingAt, Appended, Gathered}
+use Rattle.nodes.specs.Nodes.{constraintsAt, binds, bindingAt, Appended, Gathered}
 use Rattle.nodes.specs.Stored.{Linked}
 use Rattle.nodes.proofs.Tables.{map-same, map-append, count-snoc, select-append}
-use Rattle.nodes.proofs.Chains.{Links, chain-up, chain-root, chain-few}
+use Rattle.nodes.proofs.Chains.{Links, chain-up, chain-root}
 
 -- WORDS OF 16 BITS
 low16 : (x r : ℕ) → x < 65536 → r ≡ x % 65536 → r ≡ x

@@ -1,26 +1,25 @@
 -- A walk on the sheet's grid is one that is packed and read back; a least path is such a walk; and it depends on the constraints of its
 -- carrier alone. Assumes nothing.
 use mathlib.Core.Path.{_≡_, refl, sym, _∙_, ap, subst}
-use mathlib.Core.Logic.{_⊎_, inl, inr, ⊎-elim}
+use mathlib.Core.Logic.{inl, inr}
 use mathlib.Core.Bool.{Bool, true, false, cond, _&&_}
-use mathlib.Core.List.{List, [], _∷_, _++_, map, List·Memᴰ as Mem, List·Memᴰ·not-nil as not-nil}
+use mathlib.Core.List.{List, [], _∷_, List·Memᴰ as Mem}
 use mathlib.Core.Option.{Option, none, some}
 use Prim.Native.Nat.{ℕ, zero, suc, _+_, _*_, _/_, _%_, _<_, _≤_}
 use native.Mathlib.Nat.{div-add-mod', suc-mul}
 use native.Mathlib.Numerals.{add-one}
 use native.Mathlib.Omega.{arith}
 use lib.ListN.{length, getD, List·getD-eq-default}
-use lib.Dec.{T, eqb, ltb}
-use borrow.Author.Tests.{ltb-true, ltb-false, ne-eqb, eqb-false}
+use lib.Dec.{ltb}
+use borrow.Author.Tests.{ltb-true, ltb-false}
 use Rattle.deck.specs.Lists.{all, select, takeLeast}
 use Rattle.deck.specs.Sheet.{Sheet, area, startOf, carrier}
 use Rattle.deck.specs.Paths.{walks, steps, finishOf, serves, keeps, pathsUnder, taken, leastPath}
-use Rattle.deck.specs.Planner.{boundBy}
 use Rattle.deck.specs.declared.Carrier.{Carrier}
 use Rattle.deck.specs.declared.Task.{Task}
 use Rattle.deck.specs.declared.Constraint.{Constraint}
 use Rattle.deck.specs.declared.Constraint.the-variants.{Place, Move}
-use Rattle.meaning.specs.Meaning.{OneApart, Beside, Step}
+use Rattle.meaning.specs.Meaning.{OneApart, Step}
 use Rattle.meaning.proofs.Lists.{mem-select, Took, took}
 use Rattle.meaning.proofs.Walks.{Walk, walk-of-mem, step-iff}
 use Rattle.meaning.proofs.Paths.{step-meant}

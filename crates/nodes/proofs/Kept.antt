@@ -1,20 +1,18 @@
 -- What leaves the store as it is: closing a node, slots of a root, words past the keys. Assumes nothing.
 use mathlib.Core.Path.{_≡_, refl, sym, _∙_, ap, ap₂}
-use mathlib.Core.Bool.{Bool, true, false}
-use mathlib.Core.List.{List, [], _∷_, _++_, map}
-use Prim.Native.Nat.{ℕ, zero, suc, _+_, _*_, _<_, _≤_}
+use mathlib.Core.List.{List, [], map}
+use Prim.Native.Nat.{ℕ, suc, _+_, _*_, _<_, _≤_}
 use native.Mathlib.Decide.{ℕ-discrete}
 use native.Mathlib.Omega.{arith}
-use lib.ListN.{length, getD, set, take}
-use Rattle.deck.specs.Lists.{below, select}
+use lib.ListN.{length, getD, take}
 use Rattle.deck.specs.Sheet.{Sheet}
 use Rattle.deck.specs.Search.{flowtime}
 use Rattle.deck.specs.Planner.{problem}
 use Rattle.deck.specs.declared.Constraint.{Constraint}
-use Rattle.records.specs.Record.{fields, fieldsAt, linkIn, rootIn, constraintIn, ownIn, tasksIn, finishesIn, packedIn, withSlot, keyAt, closedKey, withKey, Wrote}
+use Rattle.records.specs.Record.{fields, fieldsAt, rootIn, constraintIn, withSlot, keyAt, closedKey, withKey, Wrote}
 use Rattle.records.proofs.Frames.{key-same, key-other, key-record, fields-front, key-front}
 use Rattle.nodes.specs.Nodes.{constraintsAt, pathOf, pathsOf, assignmentOf, costOf, nodeOf, nodeAt, isOpen, openedAt}
-use Rattle.nodes.specs.Stored.{Good, Sound, Stored}
+use Rattle.nodes.specs.Stored.{Sound, Stored}
 use Rattle.nodes.proofs.Tables.{map-same, map-select-same, select-same}
 use Rattle.nodes.proofs.Chains.{stored-links, chain-alike, node-same}
 use Rattle.nodes.proofs.Makes.{node-is}

@@ -1,34 +1,34 @@
 -- Children and roots: their records are sound and stand for the nodes of the search's definition. Assumes nothing.
 use mathlib.Core.Path.{_≡_, refl, sym, _∙_, ap, ap₂, subst}
 use mathlib.Core.Bool.{Bool, true, false}
-use mathlib.Core.List.{List, [], _∷_, _++_, map, List·Memᴰ as Mem}
-use mathlib.Core.Option.{Option, none, some}
-use Prim.Native.Nat.{ℕ, zero, suc, _+_, _*_, _-_, _<_, _≤_, _%_}
+use mathlib.Core.List.{List, [], _∷_, List·Memᴰ as Mem}
+use mathlib.Core.Option.{none, some}
+use Prim.Native.Nat.{ℕ, _+_, _*_, _-_, _<_, _≤_, _%_}
 use native.Mathlib.Nat.{zero-add}
 use native.Mathlib.Numerals.{add-one}
 use native.Mathlib.Decide.{ℕ-discrete}
 use native.Mathlib.Omega.{arith}
 use lib.Dec.{eqb, ltb}
-use lib.ListN.{length, getD, set, take, drop, replicate, length-append, length-replicate, getD-replicate, List·getD-append, List·getD-eq-default}
+use lib.ListN.{length, getD, set, take, replicate, length-append, length-replicate, getD-replicate, List·getD-append, List·getD-eq-default}
 use lib.Seq.{take-at, getD-append-add}
 use borrow.Author.Tests.{ne-eqb, ltb-true, ltb-false}
-use Rattle.deck.specs.Lists.{countFrom, below, sum}
+use Rattle.deck.specs.Lists.{sum}
 use Rattle.deck.specs.Sheet.{Sheet, carrier, task, startOf}
 use Rattle.deck.specs.Paths.{walks, leastPath, finishOf}
-use Rattle.deck.specs.Search.{Node, flowtime, pathOr, rootPaths, rootOf, childNode}
+use Rattle.deck.specs.Search.{flowtime, rootPaths, rootOf, childNode}
 use Rattle.deck.specs.Planner.{problem, boundBy}
 use Rattle.deck.specs.Calls.{taskList}
 use Rattle.deck.specs.declared.Constraint.{Constraint}
 use Rattle.deck.specs.declared.Constraint.the-variants.{Place, Move}
 use Rattle.pack.specs.Pack.{packOf}
 use Rattle.pack.proofs.Trips.{length-pack}
-use Rattle.records.specs.Record.{layout, fields, fieldsAt, linkIn, rootIn, ownIn, tasksIn, finishesIn, packedIn, wordsOf, Small, withPath, childFields, rootFields, withKey, Wrote}
+use Rattle.records.specs.Record.{fields, fieldsAt, linkIn, rootIn, ownIn, tasksIn, finishesIn, wordsOf, Small, withPath, childFields, rootFields, withKey, Wrote}
 use Rattle.records.proofs.Frames.{length-field, wrote-then}
 use Rattle.records.proofs.Words.{held-again}
 use Rattle.nodes.specs.Nodes.{upward, constraintsAt, pathOf, pathsOf, assignmentOf, costOf, nodeOf, nodeAt}
 use Rattle.nodes.specs.Stored.{Fits, Good, Sound, Stored, Added, ChildOf, RootSoFar}
 use Rattle.nodes.proofs.Tables.{map-same, map-set}
-use Rattle.nodes.proofs.Grid.{walk-long, least-walk}
+use Rattle.nodes.proofs.Grid.{least-walk}
 use Rattle.nodes.proofs.Adds.{added, PathSet, finish-here, finish-other, finishes-long, path-other, path-here}
 
 good-bound : (d : Sheet) (c : Constraint) → Good d c → boundBy c < d .count

@@ -1,17 +1,16 @@
 -- The scan of the keys finds the open node that the definition takes. Assumes nothing.
 use mathlib.Core.Path.{_≡_, refl, sym, _∙_, ap}
 use mathlib.Core.Logic.{_⊎_, inl, inr, ⊎-elim}
-use mathlib.Core.Bool.{Bool, true, false, not, false≢true}
-use mathlib.Core.List.{List, [], _∷_, _++_, map}
-use mathlib.Core.Option.{Option, none, some}
-use Prim.Native.Nat.{ℕ, zero, suc, _+_, _*_, _-_, _<_, _≤_, min}
-use native.Mathlib.Decide.{ℕ-discrete}
+use mathlib.Core.Bool.{Bool, true, false}
+use mathlib.Core.List.{List, [], map}
+use mathlib.Core.Option.{some}
+use Prim.Native.Nat.{ℕ, _+_, _*_, _-_, _<_, _≤_, min}
 use native.Mathlib.Omega.{arith}
 use lib.Dec.{eqb, ltb}
-use lib.ListN.{length, getD, take, drop}
-use borrow.Author.Tests.{eq-eqb, ne-eqb, eqb-true, eqb-false, not-true, ltb-true, ltb-false}
+use lib.ListN.{length, getD}
+use borrow.Author.Tests.{ne-eqb, eqb-false, not-true, ltb-true, ltb-false}
 use borrow.Author.Count.{below-more}
-use Rattle.deck.specs.Lists.{below, select, takeLeast}
+use Rattle.deck.specs.Lists.{below, takeLeast}
 use Rattle.deck.specs.Sheet.{Sheet}
 use Rattle.deck.specs.Search.{Node}
 use Rattle.deck.specs.declared.Constraint.{Constraint}
@@ -19,10 +18,9 @@ use Rattle.records.specs.Cut.{part}
 use Rattle.records.specs.Record.{fieldsAt, keyAt, closedKey, withKey}
 use Rattle.records.proofs.Cuts.{length-part, part-get}
 use Rattle.records.proofs.Frames.{key-same, key-other, key-record}
-use Rattle.nodes.specs.declared.Pick.{Pick}
-use Rattle.nodes.specs.declared.Pick.the-variants.{Nothing, Open}
+use Rattle.nodes.specs.declared.Pick.the-variants.{Open}
 use Rattle.nodes.specs.Nodes.{costOf, nodeOf, nodeAt, isOpen, openNumbers, openedAt, LeastTo, FirstOf, Cheapest}
-use Rattle.nodes.specs.Stored.{Fits, Sound, Stored}
+use Rattle.nodes.specs.Stored.{Fits, Stored}
 use Rattle.nodes.proofs.Tables.{map-select-same, select-none, take-map, mapped, took-first}
 use Rattle.nodes.proofs.Chains.{node-same}
 use Rattle.nodes.proofs.Costs.{cost-small}

@@ -1,30 +1,30 @@
 -- What the readers of a record say of its node, and what the gathered records are to the path call. Assumes nothing.
 use mathlib.Core.Path.{_≡_, refl, sym, _∙_, ap}
 use mathlib.Core.Bool.{Bool, true, false, _&&_}
-use mathlib.Core.List.{List, [], _∷_, _++_, map, List·Memᴰ as Mem, List·Memᴰ·head as here, List·Memᴰ·tail as there}
-use Prim.Native.Nat.{ℕ, zero, suc, _+_, _*_, _-_, _/_, _%_, _<_, _≤_}
-use native.Mathlib.Nat.{zero-add, mul-le-mul-left, mul-le-mul-right}
+use mathlib.Core.List.{List, [], _∷_, _++_, List·Memᴰ as Mem}
+use Prim.Native.Nat.{ℕ, _+_, _*_, _-_, _/_, _%_, _<_, _≤_}
+use native.Mathlib.Nat.{mul-le-mul-left, mul-le-mul-right}
 use native.Mathlib.Omega.{arith}
 use lib.Dec.{T, eqb, leb, ltb, le→leb, lt→ltb}
-use lib.ListN.{length, getD, take, drop, replicate, length-append, length-take, length-drop, length-replicate, getD-replicate, take-append-drop, List·getD-append}
-use lib.Seq.{getD-take, getD-drop, ext-getD, length-take-le, getD-append-add}
-use Rattle.deck.specs.Lists.{countFrom, below, all, select, each}
+use lib.ListN.{length, getD, take, drop, replicate, length-append, length-drop, length-replicate, getD-replicate, take-append-drop}
+use lib.Seq.{getD-take, getD-drop, ext-getD, length-take-le}
+use Rattle.deck.specs.Lists.{below, all, each}
 use Rattle.deck.specs.Sheet.{Sheet, area, carrier, task, startOf, cause, read}
 use Rattle.deck.specs.Paths.{walks, finishOf}
-use Rattle.deck.specs.Search.{Node, taskOf, pathAt}
+use Rattle.deck.specs.Search.{taskOf, pathAt}
 use Rattle.deck.specs.Planner.{problem}
-use Rattle.deck.specs.Calls.{taskList, recordWord, goodTail, goodRecord, goodRecords}
+use Rattle.deck.specs.Calls.{taskList, recordWord, goodRecord, goodRecords}
 use Rattle.deck.specs.declared.Constraint.{Constraint}
 use Rattle.deck.specs.declared.Constraint.the-variants.{Place, Move}
 use Rattle.meaning.proofs.Tests.{Says}
 use Rattle.meaning.proofs.Lists.{mem-below, each-at}
 use Rattle.meaning.proofs.ListTests.{mem-at, says-all}
 use Rattle.meaning.proofs.Accepted.{accepted, header-says, accepted-start}
-use Rattle.records.specs.Record.{fieldsAt, linkIn, rootIn, tasksIn, finishesIn, wordsOf, Small, bytes}
+use Rattle.records.specs.Record.{fieldsAt, rootIn, tasksIn, finishesIn, wordsOf, Small, bytes}
 use Rattle.records.proofs.Frames.{length-field}
 use Rattle.records.proofs.Words.{bytes-same, length-words}
-use Rattle.nodes.specs.Nodes.{pathIn, pathsIn, pathOf, pathsOf, assignmentOf, nodeOf, nodeAt}
-use Rattle.nodes.specs.Stored.{Fits, Good, Sound, Stored}
+use Rattle.nodes.specs.Nodes.{pathIn, pathsIn, pathOf, nodeOf, nodeAt}
+use Rattle.nodes.specs.Stored.{Fits, Good, Stored}
 use Rattle.nodes.proofs.Tables.{map-same}
 use Rattle.nodes.proofs.Costs.{path-at}
 

@@ -5,9 +5,9 @@ use Prim.Native.Nat.{ℕ, zero, suc, _+_, _*_, _-_, _<_, _≤_}
 use native.Mathlib.Nat.{suc-mul, mul-le-mul-right, zero-add}
 use native.Mathlib.Numerals.{add-one}
 use native.Mathlib.Omega.{arith}
-use lib.ListN.{length, getD, take, drop, length-append}
+use lib.ListN.{length, getD, drop, length-append}
 use lib.Seq.{take-at, drop-at, drop-drop}
-use Rattle.deck.specs.Lists.{countFrom, below, flat}
+use Rattle.deck.specs.Lists.{countFrom, flat}
 use Rattle.deck.specs.Calls.{overwrite}
 use Rattle.pack.specs.Pack.{unpackOf}
 use Rattle.pack.proofs.Trips.{length-unpack}
@@ -15,7 +15,6 @@ use Rattle.records.specs.Cut.{part, put}
 use Rattle.records.specs.Record.{fieldsAt, packedIn}
 use Rattle.records.proofs.Cuts.{length-part}
 use Rattle.records.proofs.Frames.{lent-field}
-use Rattle.records.proofs.Writes.{lent-length}
 use Rattle.nodes.specs.Nodes.{pathIn, pathsIn}
 use Rattle.nodes.proofs.Tables.{count-snoc, map-append}
 

@@ -1,6 +1,6 @@
 -- Laws of select, map and takeLeast over the numbers below a bound. Assumes nothing.
-use mathlib.Core.Path.{_≡_, refl, sym, _∙_, ap}
-use mathlib.Core.Bool.{Bool, true, false, cond, false≢true}
+use mathlib.Core.Path.{_≡_, refl, _∙_, ap}
+use mathlib.Core.Bool.{Bool, true, false, cond}
 use mathlib.Core.List.{List, [], _∷_, _++_, map, List·Memᴰ as Mem}
 use mathlib.Core.Option.{Option, none, some}
 use Prim.Native.Nat.{ℕ, zero, suc, _+_, _*_, _<_, _≤_}
@@ -10,7 +10,7 @@ use native.Mathlib.Omega.{arith}
 use lib.ListN.{length, getD, set}
 use lib.Dec.{leb}
 use borrow.Author.Tests.{le-leb, lt-leb}
-use Rattle.deck.specs.Lists.{countFrom, below, sum, select, takeLeast, pickLeast}
+use Rattle.deck.specs.Lists.{countFrom, sum, select, takeLeast, pickLeast}
 use Rattle.meaning.proofs.Tests.{is-true}
 use Rattle.meaning.proofs.Lists.{mem-select, mem-countFrom, Took, took}
 

@@ -4,7 +4,7 @@ use mathlib.Core.Path.{_≡_}
 use mathlib.Core.Logic.{_⊎_}
 use mathlib.Core.Bool.{Bool, not}
 use mathlib.Core.List.{List, [], _∷_, _++_, map}
-use mathlib.Core.Option.{Option, some}
+use mathlib.Core.Option.{some}
 use lib.ListN.{getD, take, length}
 use lib.Dec.{eqb}
 use Rattle.deck.specs.Lists.{below, select, each, takeLeast}

@@ -1,15 +1,14 @@
 -- What is known of the records of the nodes that are made, and what it is to make one more. Assumes nothing.
-use Prim.Native.Nat.{ℕ, zero, suc, _+_, _*_, _<_, _≤_}
+use Prim.Native.Nat.{ℕ, _+_, _<_, _≤_}
 use mathlib.Core.Path.{_≡_}
 use mathlib.Core.List.{List, [], _∷_, _++_, List·Memᴰ as Mem}
-use mathlib.Core.Option.{Option, some}
+use mathlib.Core.Option.{some}
 use lib.ListN.{getD, length}
 use Rattle.deck.specs.Sheet.{Sheet, area, carrier, task, startOf}
 use Rattle.deck.specs.Paths.{walks, leastPath, finishOf}
 use Rattle.deck.specs.Search.{Node}
 use Rattle.deck.specs.Planner.{boundBy}
 use Rattle.deck.specs.Calls.{taskList}
-use Rattle.deck.specs.declared.Carrier.{Carrier}
 use Rattle.deck.specs.declared.Constraint.{Constraint}
 use Rattle.deck.specs.declared.Constraint.the-variants.{Place, Move}
 use Rattle.records.specs.Record.{fieldsAt, linkIn, ownIn, tasksIn, finishesIn, Small, keyAt, closedKey}

@@ -1,10 +1,10 @@
 -- What is packed is read back. Assumes nothing.
-use mathlib.Core.Path.{_≡_, refl, sym, _∙_, ap, ap₂}
+use mathlib.Core.Path.{_≡_, refl, sym, _∙_, ap}
 use mathlib.Core.Bool.{Bool, true, false, cond}
-use mathlib.Core.Logic.{_⊎_, inl, inr, ⊎-elim}
+use mathlib.Core.Logic.{inl, inr}
 use mathlib.Core.List.{List, [], _∷_, _++_}
 use Prim.Native.Nat.{ℕ, zero, suc, _+_, _*_, _-_, _/_, _%_, _<_, _≤_, min}
-use native.Mathlib.Nat.{add-zero, sub-zero, mod-eq-of-lt}
+use native.Mathlib.Nat.{add-zero, sub-zero}
 use native.Mathlib.Numerals.{add-one}
 use native.Mathlib.Decide.{ℕ-discrete}
 use native.Mathlib.Omega.{arith}
@@ -12,7 +12,7 @@ use lib.Dec.{eqb}
 use lib.ListN.{length, getD, length-append, List·getD-append}
 use lib.Seq.{ext-getD, getD-at}
 use borrow.Author.Tests.{eqb-true, eqb-false}
-use Rattle.pack.specs.Pack.{tab, digitOf, movedOf, stepAt, value, wordAt, packOf, shift, stepIn, placeFrom, placeIn, unpackOf, Step, Walk}
+use Rattle.pack.specs.Pack.{tab, digitOf, movedOf, stepAt, value, wordAt, packOf, shift, stepIn, placeIn, unpackOf, Step, Walk}
 
 pub length-tab : (f : ℕ → ℕ) (n : ℕ) → length (tab f n) ≡ n
 unfolding tab

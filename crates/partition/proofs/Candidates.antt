@@ -1,20 +1,20 @@
 -- A part's candidate is its first assignment in order, and the least assignment of the part's table. Assumes nothing.
 use Prim.Native.Nat.{ℕ, _≤_, _<_}
-use mathlib.Core.Path.{_≡_, refl, sym, ap, subst, _∙_}
-use mathlib.Core.Logic.{_↔_, _⊎_, inl, inr, ⊎-elim, _≢_}
-use mathlib.Core.Bool.{Bool, true, false, cond, not, _&&_}
+use mathlib.Core.Path.{_≡_, refl, sym, _∙_}
+use mathlib.Core.Logic.{_⊎_, inl, inr, ⊎-elim}
+use mathlib.Core.Bool.{cond, not}
 use mathlib.Core.List.{List, List·Memᴰ as Mem, List·Memᴰ·not-nil as not-nil}
 use mathlib.Core.Option.{Option, none, some}
 use native.Mathlib.Decide.{ℕ-discrete}
 use native.Mathlib.Nat.{le-refl}
 use native.Mathlib.Omega.{arith}
-use lib.Dec.{eqb, ltb}
+use lib.Dec.{eqb}
 use borrow.Author.Tests.{lt-ltb, le-ltb, eq-eqb, ne-eqb}
-use Rattle.deck.specs.Lists.{below, all, select, headOf}
+use Rattle.deck.specs.Lists.{below, select, headOf}
 use Rattle.deck.specs.Assignments.{barred, entryAt, sumOf, assignmentsInOrder, leastAssignment}
 use Rattle.meaning.specs.Meaning.{_at_, Assignment, Unbarred, Less}
 use Rattle.meaning.proofs.Tests.{Says, says-eqb, says-and, says-iff}
-use Rattle.meaning.proofs.Lists.{mem-select, select-mem, mem-below, Sorted, sorted-select, Head, head-first}
+use Rattle.meaning.proofs.Lists.{mem-select, select-mem, mem-below, sorted-select, Head, head-first}
 use Rattle.meaning.proofs.ListTests.{says-all}
 use Rattle.meaning.proofs.Assignments.{in-order-meant, in-order-rising, sum-at}
 use Rattle.prices.proofs.Growth.{lower}

@@ -10,9 +10,9 @@ use lib.ListN.{length}
 use Rattle.deck.specs.Lists.{countFrom, each}
 use Rattle.deck.specs.Assignments.{assignmentsInOrder, leastAssignment}
 use Rattle.meaning.specs.Meaning.{_at_, Assignment, Unbarred, Less}
-use Rattle.meaning.proofs.Lists.{mem-each, each-mem, mem-countFrom, countFrom-mem, Sorted, sorted-append, sorted-each, sorted-countFrom}
-use Rattle.meaning.proofs.Assignments.{in-order-meant, in-order-rising, least-assignment-meant, no-assignment-meant}
-use Rattle.prices.proofs.First.{less-asym, less-trans, is-none, is-least}
+use Rattle.meaning.proofs.Lists.{mem-each, each-mem, mem-countFrom, countFrom-mem, Sorted, sorted-append}
+use Rattle.meaning.proofs.Assignments.{in-order-meant, in-order-rising, least-assignment-meant}
+use Rattle.prices.proofs.First.{less-asym, less-trans, is-least}
 use Rattle.partition.specs.Parts.{Part, InPart, candidate, noneClosed, wholePart, slotPart, Slot, slotWith, slotsOf, Apart, Holds, Best, HandsOut, ends, takes}
 use Rattle.partition.proofs.Candidates.{Candidate, candidate-meant}
 use Rattle.partition.proofs.Splits.{none-closed, split-rest, split-sub, split-apart, slot-long}

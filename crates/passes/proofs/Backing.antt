@@ -1,21 +1,20 @@
 -- The layers of the backward pass in the workspace: each has room, and writing one leaves the links and the others. Assumes nothing.
-use Prim.Native.Nat.{ℕ, zero, suc, _+_, _-_, _*_, _/_, _≤_, _<_}
-use mathlib.Core.Path.{_≡_, refl, sym, ap, ap₂, _∙_, subst}
+use Prim.Native.Nat.{ℕ, suc, _+_, _-_, _*_, _/_, _≤_, _<_}
+use mathlib.Core.Path.{_≡_, ap, ap₂, _∙_, subst}
 use mathlib.Core.Logic.{⊎-elim}
 use mathlib.Core.List.{List}
-use native.Mathlib.Nat.{eq-or-lt-of-le, le-trans, mul-le-mul, mul-le-mul-left, mul-le-mul-right, suc-mul}
-use native.Mathlib.Numerals.{add-one}
+use native.Mathlib.Nat.{eq-or-lt-of-le, le-trans, mul-le-mul, mul-le-mul-right, suc-mul}
 use native.Mathlib.Omega.{arith}
 use lib.ListN.{length, getD}
 use lib.Dec.{ltb}
 use Rattle.sheet.proofs.Accepted.{start-on-grid}
-use Rattle.deck.specs.Sheet.{Sheet, read, area, startOf, goalsOf}
-use Rattle.deck.specs.Calls.{recordWord, constraintsOf}
+use Rattle.deck.specs.Sheet.{read, area, startOf, goalsOf}
+use Rattle.deck.specs.Calls.{constraintsOf}
 use Rattle.deck.specs.declared.Carrier.{Carrier}
 use Rattle.deck.specs.declared.Task.{Task}
 use Rattle.kernel.specs.Kernel.{hind}
 use Rattle.bars.specs.Padded.{padOf, Holds}
-use Rattle.bars.specs.Bars.{countIn, Linked, Chained}
+use Rattle.bars.specs.Bars.{countIn, Chained}
 use Rattle.layers.specs.Step.{Margin}
 use Rattle.layers.specs.Packed.{Kept, wordsFor, Laid}
 use Rattle.layers.proofs.Keeping.{kept-laid, laid-stays, words-fit}

@@ -1,14 +1,14 @@
 -- What a ready sheet with good records gives. Assumes nothing.
-use Prim.Native.Nat.{ℕ, zero, suc, _+_, _*_, _/_, _%_, _≤_, _<_}
-use mathlib.Core.Path.{_≡_, refl, sym, ap, _∙_, subst}
-use mathlib.Core.Bool.{Bool, _&&_}
-use mathlib.Core.List.{List, reverse, List·Memᴰ as Mem}
+use Prim.Native.Nat.{ℕ, zero, suc, _/_, _%_, _≤_, _<_}
+use mathlib.Core.Path.{_≡_, sym, subst}
+use mathlib.Core.Bool.{Bool}
+use mathlib.Core.List.{List, List·Memᴰ as Mem}
 use native.Mathlib.Omega.{arith}
-use lib.ListN.{length, getD}
+use lib.ListN.{length}
 use lib.Dec.{T, leb, ltb, eqb, eqb→eq, leb→le, ltb→lt}
-use Rattle.deck.specs.Lists.{below, all}
-use Rattle.deck.specs.Sheet.{Sheet, read, area, free, carrier, task, startOf, goalsOf, lastGoal, cause}
-use Rattle.deck.specs.Calls.{recordWord, constraintOf, constraintAt, constraintsOf, goodTail, goodRecord, goodRecords}
+use Rattle.deck.specs.Lists.{below}
+use Rattle.deck.specs.Sheet.{Sheet, read, area, free, carrier, startOf, goalsOf, lastGoal}
+use Rattle.deck.specs.Calls.{recordWord, constraintOf, constraintsOf, goodTail, goodRecord, goodRecords}
 use Rattle.deck.specs.declared.Carrier.{Carrier}
 use Rattle.deck.specs.declared.Task.{Task}
 use Rattle.deck.specs.declared.Constraint.{Constraint}
@@ -16,7 +16,7 @@ use Rattle.meaning.proofs.Tests.{Says, says-eqb, says-leb, says-and}
 use Rattle.meaning.proofs.Lists.{mem-below}
 use Rattle.meaning.proofs.ListTests.{says-all}
 use Rattle.meaning.proofs.Accepted.{accepted-horizon}
-use Rattle.sheet.proofs.Accepted.{width-range, height-range, area-range, start-free, goals-range, goal-on-grid, last-goal-free}
+use Rattle.sheet.proofs.Accepted.{width-range, height-range, area-range, start-free, goals-range, last-goal-free}
 use Rattle.kernel.proofs.Both.{and-left, and-right}
 use Rattle.kernel.proofs.OfSheet.{InTime}
 use Rattle.bars.specs.Padded.{padOf}

@@ -1,16 +1,15 @@
 -- The code's layers are the layers of the two passes. Assumes nothing.
-use Prim.Native.Nat.{ℕ, zero, suc, _+_, _-_, _*_, _/_, _≤_, _<_}
+use Prim.Native.Nat.{ℕ, suc, _+_, _-_, _≤_, _<_}
 use mathlib.Core.Path.{_≡_, refl, sym, ap, _∙_, subst}
 use mathlib.Core.Logic.{⊎-elim}
-use mathlib.Core.Bool.{Bool, true, false, cond, _&&_}
+use mathlib.Core.Bool.{Bool, true, false, _&&_}
 use mathlib.Core.List.{List, reverse}
 use native.Mathlib.Nat.{eq-or-lt-of-le}
 use native.Mathlib.Numerals.{add-one}
 use native.Mathlib.Omega.{arith}
 use lib.ListN.{length, getD, replicate, length-replicate, getD-replicate, List·getD-eq-default}
 use lib.Dec.{T, leb, ltb, leb→le, le→leb, ltb→lt, lt→ltb}
-use borrow.Author.Tests.{le-leb}
-use Rattle.deck.specs.Sheet.{Sheet, read, area, free, carrier, startOf, goalsOf, lastGoal, cause}
+use Rattle.deck.specs.Sheet.{Sheet, read, area, carrier, startOf, goalsOf, lastGoal}
 use Rattle.deck.specs.Calls.{constraintsOf}
 use Rattle.deck.specs.declared.Carrier.{Carrier}
 use Rattle.deck.specs.declared.Task.{Task}
@@ -29,7 +28,7 @@ use Rattle.layers.specs.Step.{nextLayer, Ground, Labels, Margin, Stepped, Seede
 use Rattle.layers.proofs.Stepping.{holds-margin}
 use Rattle.passes.specs.Ready.{Ready, Goals, Turned, Early}
 use Rattle.passes.proofs.Turning.{reverse-at, goals-index}
-use Rattle.passes.proofs.Given.{wide-one, wide-most, high-one, high-most, horizon-most, begins-free, ends-free, few-goals, few-records, on-layer, pad-small}
+use Rattle.passes.proofs.Given.{wide-one, wide-most, high-one, high-most, begins-free, ends-free, few-goals, few-records, on-layer, pad-small}
 
 holds-same : {d : Sheet} {x : List ℕ} {f g : ℕ → ℕ} → ((v : ℕ) → f v ≡ g v) → Holds d x f → Holds d x g
 holds-same e h = record { size = h .size; inside = λ v l. h .inside v l ∙ e v; border = h .border }

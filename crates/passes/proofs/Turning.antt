@@ -1,11 +1,11 @@
 -- Lists of padded goals filled from the front, and turned round. Assumes nothing.
-use Prim.Native.Nat.{ℕ, zero, suc, _+_, _-_, _≤_, _<_}
-use mathlib.Core.Path.{_≡_, refl, sym, ap, _∙_, subst}
+use Prim.Native.Nat.{ℕ, suc, _+_, _-_, _<_}
+use mathlib.Core.Path.{_≡_, sym, ap, _∙_, subst}
 use mathlib.Core.Logic.{⊎-elim}
 use mathlib.Core.List.{List, [], _∷_, _++_, reverse, reverse-cons}
 use native.Mathlib.Nat.{eq-or-lt-of-le}
 use native.Mathlib.Omega.{arith}
-use lib.ListN.{length, getD, set, length-set, length-reverse, List·getD-append}
+use lib.ListN.{length, getD, set, length-reverse, List·getD-append}
 use lib.Seq.{getD-set-same, getD-set-other, getD-append-add}
 use Rattle.bars.specs.Padded.{padOf}
 use Rattle.layers.specs.Raise.{GoalsAt, Indexes}

@@ -3,9 +3,9 @@
 use Prim.Native.Nat.{ℕ, suc, _+_, _-_, _*_, _≤_, _<_}
 use mathlib.Core.Path.{_≡_}
 use mathlib.Core.List.{List, reverse}
-use lib.ListN.{length, getD}
+use lib.ListN.{length}
 use lib.Dec.{T}
-use Rattle.deck.specs.Sheet.{Sheet, read, area, countOf, goalsOf, lastGoal, cause}
+use Rattle.deck.specs.Sheet.{read, area, countOf, goalsOf, lastGoal, cause}
 use Rattle.deck.specs.Calls.{constraintsOf, goodRecords}
 use Rattle.deck.specs.declared.Carrier.{Carrier}
 use Rattle.deck.specs.declared.Task.{Task}

@@ -5,7 +5,7 @@ use mathlib.Core.Path.{_≡_, refl, sym, ap, ap₂, subst, _∙_}
 use mathlib.Core.Logic.{_⊎_, inl, inr, ⊎-elim, _≢_}
 use mathlib.Core.List.{List, [], _∷_, map, List·Memᴰ as Mem, List·Memᴰ·head as here, List·Memᴰ·tail as there, List·Memᴰ·not-nil as not-nil, List·Memᴰ·cases-cons as cases-cons}
 use mathlib.Core.Option.{Option, none, some}
-use native.Mathlib.Nat.{le-refl, le-trans, suc-inj, eq-or-lt-of-le, le-of-suc-le-suc, mul-le-mul-right, suc-mul}
+use native.Mathlib.Nat.{suc-inj, eq-or-lt-of-le, le-of-suc-le-suc, mul-le-mul-right, suc-mul}
 use native.Mathlib.Omega.{arith}
 use lib.ListN.{length}
 use borrow.Author.Tests.{eq-eqb, ne-eqb}

@@ -1,11 +1,11 @@
 -- One round of the Hungarian method: the tree of a row grows over entries of least slack until it reaches a free column, and the
 -- way back to the row is turned. Assumes nothing.
-use Prim.Native.Nat.{ℕ, zero, suc, _+_, _≤_, _<_, suc-le-suc, zero-le}
+use Prim.Native.Nat.{ℕ, zero, suc, _+_, _≤_, _<_}
 use mathlib.Core.Path.{_≡_, refl, sym, ap, subst, _∙_}
 use mathlib.Core.Logic.{_⊎_, inl, inr, ⊎-elim, _≢_}
 use mathlib.Core.Bool.{Bool, true, false, false≢true}
-use mathlib.Core.List.{List, map}
-use native.Mathlib.Nat.{not-suc-le-zero, le-trans, le-refl, eq-or-lt-of-le, le-of-suc-le-suc}
+use mathlib.Core.List.{map}
+use native.Mathlib.Nat.{not-suc-le-zero, le-refl, eq-or-lt-of-le, le-of-suc-le-suc}
 use native.Mathlib.Decide.{ℕ-discrete}
 use native.Mathlib.Omega.{arith}
 use lib.ListN.{length-map}
@@ -14,7 +14,7 @@ use borrow.Author.Tests.{ltb-true, ltb-false}
 use Rattle.deck.specs.Lists.{below}
 use Rattle.meaning.specs.Meaning.{_at_, Assignment}
 use Rattle.meaning.proofs.Lists.{getD-tabulate, length-countFrom}
-use Rattle.prices.specs.Matching.{Feasible, Tight, AtMost, Bounded, Put, Raised, LeastSlack, Matches, Reached, Tree, Turning}
+use Rattle.prices.specs.Matching.{Tight, AtMost, Bounded, Put, Raised, LeastSlack, Matches, Reached, Tree, Turning}
 use Rattle.prices.proofs.Sums.{each-assigned}
 
 pub lower : (a b : ℕ) → (a < b) ⊎ (b ≤ a)

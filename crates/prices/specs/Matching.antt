@@ -2,7 +2,7 @@
 -- of one round of the Hungarian method. A row's price is u i, a column's price is 0 - v j: v holds the negated column prices, so
 -- that all are natural numbers. task i is the task of row i, carrier j the row of column j; m or more stands for none.
 -- Assumes nothing.
-use Prim.Native.Nat.{ℕ, suc, _+_, _≤_, _<_}
+use Prim.Native.Nat.{ℕ, _+_, _≤_, _<_}
 use mathlib.Core.Path.{_≡_}
 use mathlib.Core.Logic.{_≢_, _⊎_}
 use mathlib.Core.Bool.{Bool, true, false}

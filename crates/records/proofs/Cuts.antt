@@ -1,12 +1,12 @@
 -- The frame: words put anew inside one field change that field of the cut list and no other. Assumes nothing.
 use mathlib.Core.Path.{_≡_, refl, sym, _∙_, ap}
 use mathlib.Core.List.{List, [], _∷_, _++_, append-assoc}
-use Prim.Native.Nat.{ℕ, zero, suc, _+_, _*_, _-_, _<_, _≤_}
+use Prim.Native.Nat.{ℕ, zero, suc, _+_, _-_, _<_, _≤_}
 use native.Mathlib.Nat.{add-assoc}
 use native.Mathlib.Omega.{arith}
 use native.Mathlib.Numerals.{add-one}
-use lib.ListN.{length, getD, set, take, drop, length-take, length-drop, length-append, List·getD-append}
-use lib.Seq.{take-at, drop-at, take-add, drop-drop, length-take-le, set-split, getD-take, getD-drop, take-nil, drop-nil, take-take, take-append-le, drop-append-le, take-append-add, drop-append-add, drop-length}
+use lib.ListN.{length, getD, set, take, drop, length-drop, length-append}
+use lib.Seq.{take-at, drop-at, take-add, drop-drop, length-take-le, set-split, getD-take, getD-drop, take-nil, take-take, take-append-le, drop-append-le, take-append-add, drop-append-add}
 use Rattle.deck.specs.Lists.{sum}
 use Rattle.records.specs.Cut.{part, put, offset, cut}
 

@@ -1,8 +1,8 @@
 -- What a write in one record leaves as it was, and where a field's words stand. Assumes nothing.
 use mathlib.Core.Path.{_≡_, refl, sym, _∙_, ap}
 use mathlib.Core.Bool.{Bool, true, false}
-use mathlib.Core.List.{List, [], _∷_, _++_}
-use Prim.Native.Nat.{ℕ, zero, suc, _+_, _*_, _-_, _<_, _≤_}
+use mathlib.Core.List.{List, [], _∷_}
+use Prim.Native.Nat.{ℕ, _+_, _*_, _-_, _<_, _≤_}
 use native.Mathlib.Nat.{add-zero}
 use native.Mathlib.Omega.{arith}
 use lib.ListN.{length, getD, set, take, drop}
@@ -11,7 +11,7 @@ use borrow.Author.Tests.{ltb-true, ltb-false}
 use lib.Seq.{take-all, getD-drop, getD-take, getD-set-same, getD-set-other}
 use Rattle.records.specs.Cut.{part, put, offset, cut}
 use Rattle.records.specs.Record.{layout, fields, fieldsAt, slotIn, keyAt, withKey, Wrote}
-use Rattle.records.proofs.Cuts.{set-put, length-part, length-put, part-inside, part-here, part-behind, drop-before, part-before, offset-sum, cut-inside, cut-at, part-get, part-part, lent}
+use Rattle.records.proofs.Cuts.{set-put, length-part, part-inside, part-here, part-behind, drop-before, part-before, offset-sum, cut-inside, cut-at, part-get, part-part}
 
 -- another record, and a key, are not touched by words put into record n
 module _ (work ys : List ℕ) (n j k : ℕ) (e : length ys ≡ k) (b : j + k ≤ 512) (h : 512 * n + 512 ≤ length work) where

@@ -1,11 +1,11 @@
 -- What each turn of the loops over words adds, and the words of a constraint. Assumes nothing.
 use mathlib.Core.Path.{_≡_, refl, sym, _∙_, ap}
-use mathlib.Core.List.{List, [], _∷_, _++_, map}
-use Prim.Native.Nat.{ℕ, zero, suc, _+_, _*_, _-_, _<_, _≤_, _%_}
-use native.Mathlib.Nat.{mod-eq-of-lt, add-zero, add-assoc}
+use mathlib.Core.List.{List, [], _∷_, _++_}
+use Prim.Native.Nat.{ℕ, zero, suc, _+_, _-_, _<_, _≤_, _%_}
+use native.Mathlib.Nat.{mod-eq-of-lt, add-assoc}
 use native.Mathlib.Numerals.{add-one}
 use native.Mathlib.Omega.{arith}
-use lib.ListN.{length, getD, set, take, drop, replicate, replicate-append-replicate, length-map, length-replicate}
+use lib.ListN.{length, getD, set, take, replicate, replicate-append-replicate}
 use lib.Seq.{take-all, take-suc, take-suc-set}
 use Rattle.deck.specs.Lists.{sum}
 use Rattle.deck.specs.Sheet.{carrier}
@@ -13,7 +13,6 @@ use Rattle.deck.specs.Calls.{constraintOf}
 use Rattle.deck.specs.declared.Carrier.{Carrier}
 use Rattle.deck.specs.declared.Constraint.{Constraint}
 use Rattle.deck.specs.declared.Constraint.the-variants.{Place, Move}
-use Rattle.records.specs.Cut.{part, put, offset, cut}
 use Rattle.records.specs.Record.{constraintIn, wordsOf, Small, bytes}
 
 -- a list filled from the front: one word more, and all

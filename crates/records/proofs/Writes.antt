@@ -1,8 +1,8 @@
 -- What each writer leaves in the workspace, from what its calls and stores leave. Assumes nothing.
 use mathlib.Core.Path.{_≡_, refl, sym, _∙_, ap}
-use mathlib.Core.List.{List, [], _∷_, _++_, append-nil, append-assoc}
-use Prim.Native.Nat.{ℕ, zero, suc, _+_, _*_, _-_, _<_, _≤_, _%_}
-use native.Mathlib.Nat.{mod-eq-of-lt, add-zero, add-comm}
+use mathlib.Core.List.{List, [], _∷_, append-nil, append-assoc}
+use Prim.Native.Nat.{ℕ, _+_, _*_, _-_, _<_, _≤_, _%_}
+use native.Mathlib.Nat.{mod-eq-of-lt, add-zero}
 use native.Mathlib.Numerals.{add-one}
 use native.Mathlib.Omega.{arith}
 use lib.ListN.{length, getD, set, take, drop, replicate, length-set, length-drop, drop-of-length-le, List·getD-append, length-replicate}

@@ -1,9 +1,9 @@
 -- The record of a node, 512 words of the workspace, as a list of fields. Assumes nothing.
-use Prim.Native.Nat.{ℕ, zero, suc, _+_, _*_, _<_, _≤_, _%_}
+use Prim.Native.Nat.{ℕ, _+_, _*_, _<_, _%_}
 use mathlib.Core.Path.{_≡_}
 use mathlib.Core.Bool.{Bool}
 use mathlib.Core.List.{List, [], _∷_, map}
-use lib.ListN.{getD, set, length, replicate}
+use lib.ListN.{getD, set, replicate}
 use lib.Dec.{eqb}
 use Rattle.deck.specs.Sheet.{carrier}
 use Rattle.deck.specs.Calls.{constraintOf}

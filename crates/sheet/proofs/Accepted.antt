@@ -1,25 +1,27 @@
 -- What an accepted sheet gives, beyond the laws of the crate meaning: the ranges of the header, the grid's length, starts and goals
 -- on free places of the grid, how many goals a task has, and the bound on the workspace. Assumes nothing.
-use Prim.Native.Nat.{ℕ, zero, suc, _+_, _*_, _-_, _/_, _%_, _≤_, _<_}
+use Prim.Native.Nat.{ℕ, suc, _-_, _%_, _≤_, _<_}
 use mathlib.Core.Path.{_≡_, refl, sym, _∙_}
-use mathlib.Core.Logic.{_⊎_, inl, inr, ⊎-elim}
-use mathlib.Core.Bool.{Bool, true, false, _&&_}
-use mathlib.Core.List.{List, [], _∷_, map, List·Memᴰ as Mem}
+use mathlib.Core.Bool.{Bool}
+use mathlib.Core.List.{List, [], map}
 use native.Mathlib.Decide.{decLe}
 use native.Mathlib.Nat.{mul-le-mul, one-le-mul}
 use native.Mathlib.Omega.{arith}
-use lib.Dec.{T, leb, ltb, eqb, leb→le}
+use lib.Dec.{T, leb, leb→le}
 use lib.ListN.{length, getD, length-take, length-drop, List·getD-eq-default}
-use Rattle.deck.specs.Lists.{below, within, all, distinct, last, greatest}
-use Rattle.deck.specs.Sheet.{Sheet, Stretch, area, carrier, task, startOf, goalsOf, lastGoal, mostGoals, countOf, part, pairAt, gridPair, taskPair, gridStretch, taskStretch, words, read, free, goalsSize, goodGrid, goodStarts, goodGoals, goodLastGoals, cause}
+use Rattle.deck.specs.Lists.{below, all, distinct, last}
+use Rattle.deck.specs.Sheet.{Sheet, Stretch, area, carrier, task, startOf, goalsOf, lastGoal, mostGoals, countOf, part, gridPair, taskPair, gridStretch, taskStretch, read, free, goalsSize, goodGrid, goodStarts, goodGoals, goodLastGoals, cause}
 use Rattle.deck.specs.Calls.{workspaceFor}
 use Rattle.deck.specs.declared.Carrier.{Carrier}
 use Rattle.deck.specs.declared.Task.{Task}
-use Rattle.meaning.proofs.Tests.{Says, says-eqb, says-leb, says-and, says-iff}
+use Rattle.meaning.proofs.Tests.{Says, says-eqb, says-leb, says-and}
 use Rattle.meaning.proofs.ListTests.{says-all-at, says-distinct}
 use Rattle.meaning.proofs.Accepted.{Inside, accepted, accepted-horizon, accepted-inside, accepted-starts, header-says, directory-says}
-use Rattle.sheet_parts.proofs.Words.{length-words, last-of}
-use Rattle.sheet_parts.proofs.Tasks.{tasks-length, goals-there, no-goals, each-task-length, each-task-at}
+use Rattle.sheet_parts.proofs.Words.{length-words}
+use Rattle.sheet_parts.proofs.Tasks.{goals-there, each-task-length, each-task-at}
+-- of any sheet: as many lists of goals as tasks; past the last task no goals; the last of the goals by its index
+pub use Rattle.sheet_parts.proofs.Tasks.{tasks-length, no-goals}
+pub use Rattle.sheet_parts.proofs.Words.{last-of}
 use Rattle.sheet_parts.proofs.Scans.{below-at, length-below, greatest-at-most, at-most-greatest}
 
 says-itself : {b : Bool} → Says b (T b)
@@ -58,6 +60,9 @@ module _ (s : List ℕ) (ok : cause s ≡ 0) where
   pub limit-range : (1 ≤ read s .limit) × (read s .limit ≤ 4096)
   limit-range = header-says s .fact (accepted s ok .header) .0 .0 .1
 
+  pub horizon-range : read s .horizon ≤ 255
+  horizon-range = accepted-horizon s ok
+
   pub area-range : (1 ≤ area (read s)) × (area (read s) ≤ 1024)
   area-range = (
     one-le-mul (width-range .0) (height-range .0),
@@ -79,21 +84,24 @@ module _ (s : List ℕ) (ok : cause s ≡ 0) where
       go (no h) = leb→le (getD (read s .grid) v 0) 1 (all-at (λ b. leb b 1) (read s .grid) 0 (accepted s ok .grid) v (omega arith))
 
   -- the starts
+  pub starts-length : length (read s .starts) ≡ read s .count
+  starts-length = accepted-starts s ok
+
   pub start-free : (i : ℕ) → i < read s .count → T (free (read s) (startOf (read s) (carrier i)))
   start-free i h =
-      all-at (free (read s)) (read s .starts) 0 (starts-say (read s) .fact (accepted s ok .starts) .0) i (omega (arith, accepted-starts s ok))
+      all-at (free (read s)) (read s .starts) 0 (starts-say (read s) .fact (accepted s ok .starts) .0) i (omega (arith, starts-length))
 
   pub starts-differ : (i k : ℕ) → i < read s .count → k < read s .count → startOf (read s) (carrier i) ≡ startOf (read s) (carrier k) → i ≡ k
   starts-differ i k a b e =
       says-distinct (read s .starts) .fact (starts-say (read s) .fact (accepted s ok .starts) .1) i k
-      (omega (arith, accepted-starts s ok)) (omega (arith, accepted-starts s ok)) e
+      (omega (arith, starts-length)) (omega (arith, starts-length)) e
 
   -- of any number: past the last carrier the start reads 0
   pub start-on-grid : (i : Carrier) → startOf (read s) i < area (read s)
   start-on-grid i = go (decLe (read s .count) (i .0))
     where
       go : Dec (read s .count ≤ i .0) → startOf (read s) i < area (read s)
-      go (yes h) = omega (arith, area-range, List·getD-eq-default (read s .starts) 0 {n = i .0} (omega (arith, accepted-starts s ok)))
+      go (yes h) = omega (arith, area-range, List·getD-eq-default (read s .starts) 0 {n = i .0} (omega (arith, starts-length)))
       go (no h) = free-says (read s) (startOf (read s) i) (start-free (i .0) (omega arith)) .0
 
   -- the goals
@@ -153,7 +161,7 @@ module _ (s : List ℕ) (ok : cause s ≡ 0) where
   pub workspace-bound : workspaceFor (read s) < 8388608
   unfolding workspaceFor
   workspace-bound =
-      let h : suc (read s .horizon) ≤ 256 = omega (arith, accepted-horizon s ok) in
+      let h : suc (read s .horizon) ≤ 256 = omega (arith, horizon-range) in
       let k : suc (mostGoals (read s)) ≤ 9 = omega (arith, most-goals) in
       omega (arith, limit-range, mul-le-mul (mul-le-mul h (area-range .1)) k)
 

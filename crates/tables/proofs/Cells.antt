@@ -11,7 +11,7 @@ use lib.Seq.{getD-set-same, getD-set-other}
 use borrow.Author.Tests.{lt-ltb, le-ltb, eq-eqb, ne-eqb}
 use Rattle.deck.specs.Assignments.{barred, entryAt}
 use Rattle.meaning.specs.Meaning.{_at_}
-use Rattle.prices.specs.Square.{square, cell, copied}
+use Rattle.prices.specs.Square.{cell, copied}
 use Rattle.prices.proofs.Squares.{square-at, square-same, square-own}
 use Rattle.partition.specs.Parts.{Part, partEntry, partTable}
 use Rattle.tables.specs.Copies.{copyEntry}

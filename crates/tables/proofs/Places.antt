@@ -1,24 +1,15 @@
 -- Digits and weights as the code reckons them. Assumes nothing.
-use Prim.Native.Nat.{ℕ, zero, suc, _+_, _-_, _*_, _≤_, _<_}
-use mathlib.Core.Path.{_≡_, refl, sym, ap, _∙_}
-use mathlib.Core.Logic.{⊎-elim}
-use mathlib.Core.List.{List, [], _∷_, _++_}
-use native.Mathlib.Nat.{mul-le-mul-right, mul-le-mul-left, eq-or-lt-of-le, le-of-suc-le-suc, not-suc-le-zero, le-refl}
-use native.Mathlib.Numerals.{add-one}
+use Prim.Native.Nat.{ℕ, _+_, _-_, _*_, _≤_, _<_}
+use mathlib.Core.Path.{_≡_}
+use mathlib.Core.List.{List, [], _∷_}
+use native.Mathlib.Nat.{mul-le-mul-left}
 use native.Mathlib.Omega.{arith}
-use lib.ListN.{length, getD, take, set, replicate, length-set, length-append, length-replicate, getD-replicate, List·getD-append}
-use lib.Seq.{ext-getD, getD-set-same, getD-set-other, getD-append-add, getD-take, length-take-le}
-use lib.Dec.{eqb, leb}
 use Rattle.deck.specs.Lists.{below}
-use Rattle.deck.specs.Calls.{taskList}
 use Rattle.meaning.specs.Meaning.{_at_}
-use Rattle.meaning.proofs.Tests.{says-eqb, says-leb, says-and, Says}
+use Rattle.meaning.proofs.Tests.{says-eqb, says-leb, says-and}
 use Rattle.meaning.proofs.Lists.{mem-below}
 use Rattle.meaning.proofs.ListTests.{says-all}
-use Rattle.prices.specs.Matching.{cost}
 use Rattle.prices.specs.Weights.{weigh, place, merged}
-use Rattle.prices.proofs.Sums.{sum-next}
-use Rattle.prices.proofs.Growth.{lower}
 
 -- the table of places
 unfoldable pub places : List ℕ

@@ -1,10 +1,9 @@
 -- `assignment::least_assignment` meets its contract: each cause, none, and the least assignment with its prices. Assumes nothing.
-use Prim.Native.Nat.{ℕ, _≤_, _*_}
-use mathlib.Core.Path.{_≡_, sym, ap, subst, _∙_}
+use Prim.Native.Nat.{ℕ}
+use mathlib.Core.Path.{_≡_, subst}
 use mathlib.Core.List.{List}
 use mathlib.Core.Option.{none}
 use native.Mathlib.Omega.{arith}
-use lib.ListN.{length}
 use borrow.Author.Needs.{needs}
 use borrow.Author.Tests.{not-true, not-false}
 use Rattle.deck.specs.Assignments.{leastAssignment}

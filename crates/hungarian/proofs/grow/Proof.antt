@@ -4,7 +4,6 @@ use Prim.Native.Nat.{ℕ}
 use mathlib.Core.List.{List}
 use native.Mathlib.Nat.{le-of-eq}
 use native.Mathlib.Omega.{arith}
-use borrow.Author.Needs.{needs}
 use Rattle.meaning.specs.Meaning.{_at_}
 use Rattle.prices.specs.Matching.{LeastSlack}
 use Rattle.prices.specs.Square.{cell}

@@ -4,7 +4,6 @@ use mathlib.Core.Path.{_≡_, refl, _∙_}
 use native.Mathlib.Omega.{arith}
 use lib.ListN.{length, length-set}
 use Rattle.meaning.specs.Meaning.{_at_}
-use Rattle.prices.specs.Matching.{Bounded}
 use Rattle.prices.specs.Square.{cell}
 use Rattle.hungarian.specs.Solving.{Way, Reaches}
 use Rattle.hungarian.proofs.Rounds.{way-low, way-ends, way-next}

@@ -1,5 +1,4 @@
 -- `hungarian::raised` meets its contract. Assumes nothing.
-use borrow.Author.Needs.{needs}
 use Rattle.hungarian.proofs.raised.Statement.{statement}
 use Rattle.hungarian.proofs.raised.Tie as tie
 

@@ -1,8 +1,8 @@
 -- `sheet::read` meets its contract. At most 12 tasks make at most 14 pairs. Assumes nothing.
 use Prim.Native.Nat.{_+_, _≤_}
-use mathlib.Core.Path.{_≡_, refl, sym, _∙_}
+use mathlib.Core.Path.{_≡_, sym, _∙_}
 use native.Mathlib.Omega.{arith}
-use Rattle.deck.specs.Sheet.{countOf, cause}
+use Rattle.deck.specs.Sheet.{cause}
 use Rattle.deck.specs.Calls.{readCall}
 use Rattle.sheet.proofs.Accepted.{count-range}
 use Rattle.sheet.proofs.Readings.{refused, accepted}

@@ -1,6 +1,5 @@
 -- `sheet_parts::cell` meets its contract: the stretch is the grid, and past its end `getD` gives 0. Assumes nothing.
-use mathlib.Core.Path.{_≡_, refl, sym, _∙_, ap}
-use native.Mathlib.Omega.{arith}
+use mathlib.Core.Path.{refl, sym}
 use lib.ListN.{List·getD-eq-default}
 use borrow.Author.Needs.{needs}
 use Rattle.sheet_parts.proofs.cell.Statement.{statement}

@@ -1,6 +1,5 @@
 -- `sheet_test::lines` is safe and ends: each turn passes at least the two bytes of a length. Assumes nothing.
 use Prim.Native.Nat.{_≤_, _-_}
-use native.Mathlib.Omega.{arith}
 use lib.ListN.{length}
 use borrow.Author.Needs.{needs}
 use Rattle.sheet_test.proofs.lines.Statement.{statement}

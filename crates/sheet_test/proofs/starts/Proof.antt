@@ -1,6 +1,5 @@
 -- `sheet_test::starts` is safe and ends: the measure is what is left. Assumes nothing.
 use Prim.Native.Nat.{_≤_, _-_}
-use native.Mathlib.Omega.{arith}
 use borrow.Author.Needs.{needs}
 use Rattle.sheet_test.proofs.starts.Statement.{statement}
 use Rattle.sheet_test.proofs.starts.Tie as tie

@@ -1,5 +1,4 @@
 -- `tables::weight` meets its contract. Assumes nothing.
-use mathlib.Core.Path.{_∙_}
 use borrow.Author.Needs.{needs}
 use Rattle.tables.proofs.Places.{merged-is}
 use Rattle.tables.proofs.weight.Statement.{statement}

@@ -1,5 +1,4 @@
 -- `assignment::order::comes_before` meets its contract. Assumes nothing.
-use mathlib.Core.Path.{_∙_}
 use borrow.Author.Needs.{needs}
 use borrow.Author.Tests.{lt-ltb, le-ltb}
 use Rattle.assignment.proofs.order.comes_before.Statement.{statement}

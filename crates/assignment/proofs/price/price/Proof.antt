@@ -1,9 +1,8 @@
 -- `assignment::price::price` meets its contract. Assumes nothing.
-use mathlib.Core.Path.{_∙_}
 use lib.IntN.{pos}
 use mir.Syntax.{w32}
 use mir.ValLaws.{toZ-ofZ}
-use mathlib.Core.Bool.{true, false}
+use mathlib.Core.Bool.{true}
 use Rattle.assignment.proofs.Priced.{price-fits, price-small, plain-price, negated-price}
 use Rattle.assignment.proofs.price.price.Statement.{statement}
 use Rattle.assignment.proofs.price.price.Tie as tie
