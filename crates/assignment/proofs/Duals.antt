@@ -27,7 +27,7 @@ use Rattle.assignment.specs.Answers.{priceOf, Chosen, Answered}
 use Rattle.assignment.proofs.Firsts.{weigh-low, copied-at, copied-words, weights-cost, solved-assignment, solved-tight}
 use Rattle.assignment.proofs.Priced.{price-small, dual-le, dual-tight}
 
-module _ (m : ℕ) (small : m ≤ 12) (t w u v task carrier : List ℕ) (W : Weighed false t w) (S : Solved m w m u v task carrier) where
+module _ (m : ℕ) (small : m ≤ 12) (t w u v task carrier : List ℕ) (W : Weighed m false t w) (S : Solved m w m u v task carrier) where
   abbrev table : List ℕ
   table = copied m t
 
@@ -36,7 +36,7 @@ module _ (m : ℕ) (small : m ≤ 12) (t w u v task carrier : List ℕ) (W : Wei
 
   -- a plain weight is that of its entry
   weight-at : (i j : ℕ) → i < m → j < m → cell w i j ≡ weigh (entryAt m table i j)
-  weight-at i j li lj = W .each i j (omega arith) (omega arith) ∙ ap weigh (sym (copied-at m small false t w W i j li lj))
+  weight-at i j li lj = W .each i j li lj ∙ ap weigh (sym (copied-at m small false t w W i j li lj))
 
   -- no price is above the heaviest weight
   pub prices-low : (k : ℕ) → k < m → (u at k ≤ heavy) × (v at k ≤ heavy)

@@ -42,27 +42,25 @@ weight-low true i j e li lj h =
     let p = places-right i li in
     omega (arith, weigh-low e h, mul-le-mul-left j (subst (λ (z : ℕ). z ≤ 743008370688) (p .0) (p .1)), lj)
 
-module _ (m : ℕ) (small : m ≤ 12) (merge : Bool) (t w : List ℕ) (W : Weighed merge t w) where
+module _ (m : ℕ) (small : m ≤ 12) (merge : Bool) (t w : List ℕ) (W : Weighed m merge t w) where
   -- the weights can be added in pairs
   pub weights-light : Light m w
   weights-light i j li lj =
-      let l : i < 12 = omega arith in
-      let k : j < 12 = omega arith in
-      rw (W .each i j l k) (weight-low merge i j (cell t i j) l k (W .words i j l k))
+      rw (W .each i j li lj) (weight-low merge i j (cell t i j) (omega arith) (omega arith) (W .words i j li lj))
 
   -- the entries of the table that t is the working copy of
   pub copied-at : (i j : ℕ) → i < m → j < m → entryAt m (copied m t) i j ≡ cell t i j
   copied-at i j li lj = square-at m (cell t) i j li lj
 
   pub copied-words : AtMost m (entryAt m (copied m t)) barred
-  copied-words i j li lj = rw (copied-at i j li lj) (W .words i j (omega arith) (omega arith))
+  copied-words i j li lj = rw (copied-at i j li lj) (W .words i j li lj)
 
   -- an assignment's cost in the weights
   pub weights-cost : (a : List ℕ) → Assignment m a → cost m (cell w) a ≡ cost m (λ i j. weightOf merge i j (entryAt m (copied m t) i j)) a
   weights-cost a h = sum-same _ _ (below m) (λ i n.
       let li = mem-below m .0 n in
       let lj = h .tasks i li in
-      W .each i (a at i) (omega arith) (omega arith) ∙ ap (weightOf merge i (a at i)) (sym (copied-at i (a at i) li lj)))
+      W .each i (a at i) li lj ∙ ap (weightOf merge i (a at i)) (sym (copied-at i (a at i) li lj)))
 
 module _ (m : ℕ) (small : m ≤ 12) (w u v task carrier : List ℕ) (S : Solved m w m u v task carrier) where
   pub tasks-low : (i : ℕ) → i < m → task at i < 12
@@ -101,7 +99,7 @@ module _ (m : ℕ) (small : m ≤ 12) (w u v task carrier : List ℕ) (S : Solve
   total-cost c = sum-same _ _ (below m) (λ i n. ap (c i) (sym (taken-at i (mem-below m .0 n))))
 
 -- BY MERGED WEIGHTS
-module _ (m : ℕ) (small : m ≤ 12) (t w u v task carrier : List ℕ) (W : Weighed true t w) (S : Solved m w m u v task carrier)
+module _ (m : ℕ) (small : m ≤ 12) (t w u v task carrier : List ℕ) (W : Weighed m true t w) (S : Solved m w m u v task carrier)
     (s : ℕ) (sum-is : s ≡ cost m (λ i j. weigh (cell t i j)) task) where
   abbrev table : List ℕ
   table = copied m t

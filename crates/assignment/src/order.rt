@@ -57,7 +57,7 @@ pub fn first(m: usize, t: &[u16; 144]) -> Candidate
     requires { ⌜ m ≤ 12 ⌝ }
     ensures { λ r. ⌜ r ≡ candidateFor m (copied m (now (t .entry))) (leastAssignment m (copied m (now (t .entry)))) ⌝ }
 {
-    let w = weights(t, true);
+    let w = weights(m, t, true);
     let mut u = [0u64; 12];
     let mut v = [0u64; 12];
     let mut task = [12usize; 12];
@@ -109,7 +109,7 @@ pub fn slot_candidate(
     ensures { λ r. ⌜ r ≡ candidateFor m (copied m (now (t .entry))) (candidate m (copied m (now (t .entry))) (slotPart (take m (now (tasks .entry))) row (now (closed .entry)) j)) ⌝ }
 {
     let c = slot_closed(tasks, row, closed, j);
-    let p = tables::part(t, tasks, j, &c);
+    let p = tables::part(m, t, tasks, j, &c);
     first(m, &p)
 }
 

@@ -67,7 +67,7 @@ pub fn priced(m: usize, t: &[u16; 144], tasks: [u8; 12]) -> AssignmentAnswer
     requires { ⌜ (m ≤ 12) × ((a : List ℕ) × (leastAssignment m (copied m (now t)) ≡ some a) × (tasks ≡ taskList a)) ⌝ }
     ensures { λ r. ⌜ Answered m (copied m (now (t .entry))) r ⌝ }
 {
-    let w = weights(t, false);
+    let w = weights(m, t, false);
     let mut u = [0u64; 12];
     let mut v = [0u64; 12];
     let mut task = [12usize; 12];

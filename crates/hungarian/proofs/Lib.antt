@@ -1,3 +1,3 @@
-pub mod Edges
-pub mod Marks
+pub mod Labels
+pub mod Gains
 pub mod Rounds

@@ -4,20 +4,24 @@
 use deck::Carrier;
 use deck::Task;
 ghost use mathlib.Core.Path.{_≡_};
-ghost use mathlib.Core.Bool.{true, cond};
-ghost use Prim.Native.Nat.{ℕ, suc, _+_, _≤_, _<_, _^_};
+ghost use mathlib.Core.Bool.{true, false, cond};
 ghost use mathlib.Core.List.{List};
+ghost use Prim.Native.Nat.{ℕ, suc, _+_, _≤_, _<_, _^_};
 ghost use lib.ListN.{length};
 ghost use Rattle.meaning.specs.Meaning.{_at_};
-ghost use Rattle.prices.specs.Matching.{Raised};
 ghost use Rattle.prices.specs.Square.{cell};
-ghost use Rattle.hungarian.specs.Solving.{marked, slackOf, Slacks, nearerOf, nearestInRow, nearestOf, farthest, Light, Solved, Reaches};
+ghost use Rattle.hungarian.specs.Solving.{marked, slackOf, Slacks, nearerOf, closerOf, Relaxed, Closest, inTree, wayTo, gainOf, rowGain, rowPrice, columnPrice, farthest, Light, Solved, Reaches};
 
-// A weight from a row of the tree to a column outside it, with its slack.
+// The length of the shortest way to a column so far, and its last row.
+pub struct Label {
+    pub near: u64,
+    pub from: usize,
+}
+
+// A column outside the tree, with the length of the shortest way to it.
 pub struct Edge {
-    pub carrier: Carrier,
     pub task: Task,
-    pub slack: u64,
+    pub near: u64,
 }
 
 pub fn weight(w: &[u64; 144], carrier: Carrier, task: Task) -> u64
@@ -29,6 +33,7 @@ pub fn weight(w: &[u64; 144], carrier: Carrier, task: Task) -> u64
     w[i * 12 + j]
 }
 
+// How far the weight of row i and column j is above their prices.
 fn slack(w: &[u64; 144], u: &[u64; 12], v: &[u64; 12], i: usize, j: usize) -> u64
     requires { ⌜ (i < 12) × (j < 12) ⌝ }
     requires { ⌜ (now u at i ≤ cell (now w) i j + now v at j) × (cell (now w) i j + now v at j < farthest) ⌝ }
@@ -37,96 +42,141 @@ fn slack(w: &[u64; 144], u: &[u64; 12], v: &[u64; 12], i: usize, j: usize) -> u6
     weight(w, Carrier(i), Task(j)) + v[j] - u[i]
 }
 
-// The edge of less slack: best, or that of row i and column j, where the column is outside the tree.
-fn nearer(
-    w: &[u64; 144],
-    u: &[u64; 12],
-    v: &[u64; 12],
-    columns: &[bool; 12],
-    i: usize,
-    j: usize,
-    best: Edge,
-) -> Edge
-    requires { ⌜ (i < 12) × (j < 12) ⌝ }
-    requires { ⌜ (now u at i ≤ cell (now w) i j + now v at j) × (cell (now w) i j + now v at j < farthest) ⌝ }
-    ensures { λ r. ⌜ r ≡ nearerOf (now (w .entry)) (now (u .entry)) (now (v .entry)) (now (columns .entry)) i j best ⌝ }
+// The label of a column after the way over row i, at the length total, and the slack s. A marked column's is final.
+fn nearer(mark: bool, l: Label, total: u64, s: u64, i: usize) -> Label
+    requires { ⌜ (mark ≡ false → total ≤ l .near) ⌝ }
+    ensures { λ r. ⌜ r ≡ nearerOf mark l total s i ⌝ }
 {
-    if columns[j] {
+    if mark {
+        return l;
+    }
+    if s < l.near - total {
+        Label {
+            near: total + s,
+            from: i,
+        }
+    } else {
+        l
+    }
+}
+
+// The nearer of best and the column j, where that is not marked.
+fn closer(mark: bool, near: u64, j: usize, best: Edge) -> Edge
+    ensures { λ r. ⌜ r ≡ closerOf mark near j best ⌝ }
+{
+    if mark {
         return best;
     }
-    let s = slack(w, u, v, i, j);
-    if s < best.slack {
+    if near < best.near {
         Edge {
-            carrier: Carrier(i),
             task: Task(j),
-            slack: s,
+            near: near,
         }
     } else {
         best
     }
 }
 
-fn nearest_in_row(
+// Looks at the ways over row i, which is at the length total, and hands back the nearest column outside the tree.
+fn relax(
     m: usize,
     w: &[u64; 144],
     u: &[u64; 12],
     v: &[u64; 12],
     columns: &[bool; 12],
+    total: u64,
     i: usize,
-    best: Edge,
+    near: &mut [u64; 12],
+    from: &mut [usize; 12],
 ) -> Edge
-    requires { ⌜ (m ≤ 12) × (i < m) × Slacks m (now w) (now u) (now v) ⌝ }
-    ensures { λ r. ⌜ r ≡ nearestInRow (now (w .entry)) (now (u .entry)) (now (v .entry)) (now (columns .entry)) i m best ⌝ }
-{
-    let mut e = best;
-    for j in 0..m {
-        e = nearer(w, u, v, columns, i, j, e);
-    }
-    e
-}
-
-// The edge of least slack that leads out of the tree.
-fn nearest(
-    m: usize,
-    w: &[u64; 144],
-    u: &[u64; 12],
-    v: &[u64; 12],
-    rows: &[bool; 12],
-    columns: &[bool; 12],
-) -> Edge
-    requires { ⌜ (m ≤ 12) × Slacks m (now w) (now u) (now v) ⌝ }
-    ensures { λ r. ⌜ r ≡ nearestOf m (now (w .entry)) (now (u .entry)) (now (v .entry)) (now (rows .entry)) (now (columns .entry)) m ⌝ }
+    requires { ⌜ (m ≤ 12) × (i < m) × Slacks m (now w) (now u) (now v) × (length (now near) ≡ 12) × (length (now from) ≡ 12) ⌝ }
+    requires { ⌜ ((k : ℕ) → k < m → marked (now columns) k ≡ false → total ≤ now near at k) ⌝ }
+    ensures { λ _. ⌜ Relaxed m (now (w .entry)) (now (u .entry)) (now (v .entry)) (now (columns .entry)) total i (now (near .entry)) (now (from .entry)) (now (near .exit)) (now (from .exit)) ⌝ }
+    ensures { λ r. ⌜ Closest (now (columns .entry)) (now (near .exit)) m r ⌝ }
 {
     let mut e = Edge {
-        carrier: Carrier(0),
         task: Task(0),
-        slack: 18446744073709551615,
+        near: 18446744073709551615,
     };
-    for i in 0..m {
-        if rows[i] {
-            e = nearest_in_row(m, w, u, v, columns, i, e);
-        }
+    for j in 0..m {
+        let s = slack(w, u, v, i, j);
+        let l = nearer(
+            columns[j],
+            Label {
+                near: near[j],
+                from: from[j],
+            },
+            total,
+            s,
+            i,
+        );
+        near[j] = l.near;
+        from[j] = l.from;
+        e = closer(columns[j], l.near, j, e);
     }
     e
 }
 
-fn raised(mark: bool, x: u64, d: u64) -> u64
-    requires { ⌜ (mark ≡ true → x + d < 2 ^ 64) ⌝ }
-    ensures { λ r. ⌜ r ≡ cond mark (x + d) x ⌝ }
+// What a price rises by.
+fn gain(mark: bool, near: u64, total: u64) -> u64
+    requires { ⌜ (mark ≡ true → near ≤ total) ⌝ }
+    ensures { λ r. ⌜ r ≡ gainOf mark near total ⌝ }
 {
-    if mark { x + d } else { x }
+    if mark { total - near } else { 0 }
 }
 
-// The marked prices raised by d.
-fn raise(m: usize, marks: &[bool; 12], d: u64, f: &mut [u64; 12])
-    requires { ⌜ (m ≤ 12) × (length (now f) ≡ 12) ⌝ }
-    requires { ⌜ ((k : ℕ) → k < m → marked (now marks) k ≡ true → now f at k + d < 2 ^ 64) ⌝ }
-    ensures { λ _. ⌜ Raised m (marked (now (marks .entry))) d (_at_ (now (f .entry))) (_at_ (now (f .exit))) ⌝ }
-    ensures { λ _. ⌜ length (now (f .exit)) ≡ 12 ⌝ }
+// What the price of row x rises by.
+fn row_gain(
+    m: usize,
+    r: usize,
+    task: &[usize; 12],
+    columns: &[bool; 12],
+    near: &[u64; 12],
+    total: u64,
+    x: usize,
+) -> u64
+    requires { ⌜ (m ≤ 12) × (x < 12) × (inTree m r (now task) (now columns) x ≡ true → wayTo r (now task) (now near) x ≤ total) ⌝ }
+    ensures { λ g. ⌜ g ≡ rowGain m r (now (task .entry)) (now (columns .entry)) (now (near .entry)) total x ⌝ }
 {
-    for k in 0..m {
-        let x = raised(marks[k], f[k], d);
-        f[k] = x;
+    if x == r {
+        return total;
+    }
+    let k = task[x];
+    if m <= k {
+        return 0;
+    }
+    gain(columns[k], near[k], total)
+}
+
+// The prices of the rows, when the tree stops at the length total.
+fn raise_rows(
+    m: usize,
+    r: usize,
+    task: &[usize; 12],
+    columns: &[bool; 12],
+    near: &[u64; 12],
+    total: u64,
+    u: &mut [u64; 12],
+)
+    requires { ⌜ (m ≤ 12) × (length (now u) ≡ 12) ⌝ }
+    requires { ⌜ ((x : ℕ) → x < m → (inTree m r (now task) (now columns) x ≡ true → wayTo r (now task) (now near) x ≤ total) × (rowPrice m r (now u) (now task) (now columns) (now near) total x < 2 ^ 64)) ⌝ }
+    ensures { λ _. ⌜ ((x : ℕ) → x < m → now (u .exit) at x ≡ rowPrice m r (now (u .entry)) (now (task .entry)) (now (columns .entry)) (now (near .entry)) total x) × (length (now (u .exit)) ≡ 12) ⌝ }
+{
+    for x in 0..m {
+        let g = row_gain(m, r, task, columns, near, total, x);
+        u[x] = u[x] + g;
+    }
+}
+
+// The negated prices of the columns, when the tree stops at the length total.
+fn raise_columns(m: usize, columns: &[bool; 12], near: &[u64; 12], total: u64, v: &mut [u64; 12])
+    requires { ⌜ (m ≤ 12) × (length (now v) ≡ 12) ⌝ }
+    requires { ⌜ ((y : ℕ) → y < m → (marked (now columns) y ≡ true → now near at y ≤ total) × (columnPrice (now v) (now columns) (now near) total y < 2 ^ 64)) ⌝ }
+    ensures { λ _. ⌜ ((y : ℕ) → y < m → now (v .exit) at y ≡ columnPrice (now (v .entry)) (now (columns .entry)) (now (near .entry)) total y) × (length (now (v .exit)) ≡ 12) ⌝ }
+{
+    for y in 0..m {
+        let g = gain(columns[y], near[y], total);
+        v[y] = v[y] + g;
     }
 }
 
@@ -135,32 +185,31 @@ fn grow(
     m: usize,
     w: &[u64; 144],
     r: usize,
+    task: &[usize; 12],
     carrier: &[usize; 12],
     u: &mut [u64; 12],
     v: &mut [u64; 12],
     from: &mut [usize; 12],
 ) -> usize
-    requires { ⌜ (m ≤ 12) × (r < m) × Light m (now w) × (length (now from) ≡ 12) ⌝ }
-    requires { ⌜ ((task : List ℕ) × Solved m (now w) r (now u) (now v) task (now carrier)) ⌝ }
-    ensures { λ j. ⌜ ((task : List ℕ) → Solved m (now (w .entry)) r (now (u .entry)) (now (v .entry)) task (now (carrier .entry)) → Reaches m (now (w .entry)) r (now (u .exit)) (now (v .exit)) (now (from .exit)) task (now (carrier .entry)) j) ⌝ }
+    requires { ⌜ (m ≤ 12) × (r < m) × Light m (now w) × Solved m (now w) r (now u) (now v) (now task) (now carrier) × (length (now from) ≡ 12) ⌝ }
+    ensures { λ j. ⌜ Reaches m (now (w .entry)) r (now (u .exit)) (now (v .exit)) (now (from .exit)) (now (task .entry)) (now (carrier .entry)) j ⌝ }
 {
-    let mut rows = [false; 12];
     let mut columns = [false; 12];
-    rows[r] = true;
+    let mut near = [18446744073709551615u64; 12];
+    let mut i = r;
+    let mut total: u64 = 0;
     loop {
-        let e = nearest(m, w, u, v, &rows, &columns);
-        let d = e.slack;
-        raise(m, &rows, d, u);
-        raise(m, &columns, d, v);
-        let i = e.carrier.0;
+        let e = relax(m, w, u, v, &columns, total, i, &mut near, from);
         let j = e.task.0;
-        from[j] = i;
+        total = e.near;
         let k = carrier[j];
         if m <= k {
+            raise_rows(m, r, task, &columns, &near, total, u);
+            raise_columns(m, &columns, &near, total, v);
             return j;
         }
         columns[j] = true;
-        rows[k] = true;
+        i = k;
     }
 }
 
@@ -178,7 +227,7 @@ fn match_row(
     ensures { λ _. ⌜ Solved m (now (w .entry)) (suc r) (now (u .exit)) (now (v .exit)) (now (task .exit)) (now (carrier .exit)) ⌝ }
 {
     let mut from = [0usize; 12];
-    let mut j = grow(m, w, r, carrier, u, v, &mut from);
+    let mut j = grow(m, w, r, task, carrier, u, v, &mut from);
     for _ in 0..12usize {
         let i = from[j];
         let next = task[i];

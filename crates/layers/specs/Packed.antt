@@ -11,7 +11,7 @@ abbrev pub byteIn : ℕ → ℕ → ℕ
 byteIn x zero = x % 256
 byteIn x (suc zero) = x / 256 % 256
 byteIn x (suc (suc zero)) = x / 65536 % 256
-byteIn x (suc (suc (suc k))) = x / 16777216
+byteIn x (suc (suc (suc k))) = x / 16777216 % 256
 
 -- the bytes of x from p on stand in the word
 abbrev pub FourAt : List ℕ → ℕ → ℕ → Type 0

@@ -103,7 +103,7 @@ pub fn keep(layer: &[u8; 1156], from: usize, words: usize, work: &mut [u32], at:
 
 fn byte_of(x: u32, k: usize) -> u32
     requires { ⌜ k < 4 ⌝ }
-    ensures { λ r. ⌜ r ≡ byteIn x k ⌝ }
+    ensures { λ r. ⌜ (r ≡ byteIn x k) × (r < 256) ⌝ }
 {
     if k == 0 {
         return x % 256;
@@ -114,13 +114,13 @@ fn byte_of(x: u32, k: usize) -> u32
     if k == 2 {
         return x / 65536 % 256;
     }
-    x / 16777216
+    x / 16777216 % 256
 }
 
 // The byte k of the bytes that are kept from the word `at` on.
 pub fn kept(work: &[u32], at: usize, k: usize) -> usize
     requires { ⌜ (k < 4096) × (at + 1024 < 18446744073709551615) × (at + k / 4 < length (now work)) ⌝ }
-    ensures { λ r. ⌜ r ≡ keptAt (now (work .entry)) at k ⌝ }
+    ensures { λ r. ⌜ (r ≡ keptAt (now (work .entry)) at k) × (r < 256) ⌝ }
 {
     byte_of(work[at + k / 4], k % 4) as usize
 }

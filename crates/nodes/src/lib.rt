@@ -223,6 +223,7 @@ fn open_node(work: &mut [u32], limit: usize, n: usize)
 pub fn open_root(work: &mut [u32], limit: usize, made: usize)
     requires { ⌜ (made < limit) × (limit ≤ 4096) × (512 * limit + 4096 ≤ length (now work)) ⌝ }
     ensures { λ _. ⌜ ((d : Sheet) (a : List ℕ) → Fits d → Stored d limit (now (work .entry)) made → RootSoFar d (now (work .entry)) made a (d .count) → Added d limit (now (work .entry)) (now (work .exit)) made (rootOf (problem d) a)) ⌝ }
+    ensures { λ _. ⌜ ((k : ℕ) → k < limit → fieldsAt (now (work .exit)) k ≡ fieldsAt (now (work .entry)) k) ⌝ }
 {
     open_node(work, limit, made);
 }

@@ -31,6 +31,40 @@ marked-or-not false = inr refl
 clash : {b : Bool} → b ≡ true → b ≡ false → ⊥
 clash e f = false≢true (sym f ∙ e)
 
+-- only the prices of rows and columns below m count
+pub same-prices : (m : ℕ) (c : ℕ → ℕ → ℕ) (r : ℕ) (u v task carrier u′ v′ : ℕ → ℕ) → Matches m c r u v task carrier
+    → ((k : ℕ) → k < m → (u′ k ≡ u k) × (v′ k ≡ v k)) → Matches m c r u′ v′ task carrier
+same-prices m c r u v task carrier u′ v′ M h = record {
+  feasible = λ i j li lj. omega (arith, M .feasible i j li lj, h i li .0, h j lj .1);
+  tight = λ j lj l. omega (arith, M .tight j lj l, h (carrier j) l .0, h j lj .1);
+  task-of = M .task-of;
+  carrier-of = M .carrier-of;
+  unpriced = λ j lj l. omega (arith, M .unpriced j lj l, h j lj .1);
+  matched = M .matched;
+  unmatched = M .unmatched;
+}
+
+-- only the rows from which the columns of the tree were reached count
+pub same-from : (m : ℕ) (c : ℕ → ℕ → ℕ) (r : ℕ) (u v task carrier : ℕ → ℕ) (rows columns : ℕ → Bool) (from order : ℕ → ℕ) (n : ℕ) (from′ : ℕ → ℕ)
+    → Tree m c r u v task carrier rows columns from order n → ((k : ℕ) → k < m → columns k ≡ true → from′ k ≡ from k)
+    → Tree m c r u v task carrier rows columns from′ order n
+same-from m c r u v task carrier rows columns from order n from′ G h = record {
+  low = G .low;
+  root = G .root;
+  row = G .row;
+  column = G .column;
+  numbered = G .numbered;
+  reached = λ k lk e.
+      let R = G .reached k lk e in
+      let f = h k lk e in
+      record {
+        low = rw f (R .low);
+        in-tree = rw f (R .in-tree);
+        over = rw f (R .over);
+        earlier = subst (λ (z : ℕ). task z < m → order (task z) < order k) (sym f) (R .earlier);
+      };
+}
+
 module _ (m : ℕ) (c : ℕ → ℕ → ℕ) (r : ℕ) (u v task carrier : ℕ → ℕ) (M : Matches m c r u v task carrier) (lr : r < m) where
   abbrev someFree : ℕ → Type 0
   someFree n = ((k : ℕ) × (k < n) × (m ≤ carrier k)) ⊎ ((k : ℕ) → k < n → carrier k < m)
@@ -149,14 +183,14 @@ module _ (m : ℕ) (c : ℕ → ℕ → ℕ) (r : ℕ) (u v task carrier : ℕ �
               before l = ⊎-elim (λ e. absurd (omega (arith, M .unmatched r (le-refl r) lr, ap task e)))
                   (λ t. omega (arith, order-kept (task i) (t .1), O .same, G .numbered (task i) l (t .1))) (G .row i (L .low-row) (L .from-row))
 
-          old-reached : (rows′ : ℕ → Bool) → ((x : ℕ) → rows x ≡ true → rows′ x ≡ true) → (k : ℕ) → k < m → columns k ≡ true
+          old-reached : (rows′ : ℕ → Bool) → ((x : ℕ) → x < m → rows x ≡ true → rows′ x ≡ true) → (k : ℕ) → k < m → columns k ≡ true
               → Reached m c u′ v′ task rows′ from′ order′ k
           old-reached rows′ more k lk e =
               let R = G .reached k lk e in
               let f : from′ k ≡ from k = F .other k (other-column k e) in
               record {
                 low = rw f (R .low);
-                in-tree = rw f (more (from k) (R .in-tree));
+                in-tree = rw f (more (from k) (R .low) (R .in-tree));
                 over = rw f (inside-tight (from k) k (R .low) lk (R .in-tree) e (R .over));
                 earlier = subst (λ (z : ℕ). task z < m → order′ (task z) < order′ k) (sym f) (before R);
               }
@@ -166,13 +200,14 @@ module _ (m : ℕ) (c : ℕ → ℕ → ℕ) (r : ℕ) (u v task carrier : ℕ �
                   (λ t. omega (arith, order-kept (task (from k)) (t .1), order-kept k e, R .earlier l)) (G .row (from k) (R .low) (R .in-tree))
 
           -- COLUMN j HAS A ROW: both join the tree
-          module _ (rows′ columns′ : ℕ → Bool) (A : Put rows (carrier j) true rows′) (B : Put columns j true columns′) (l : carrier j < m) where
-            more-rows : (x : ℕ) → rows x ≡ true → rows′ x ≡ true
-            more-rows x e = go (ℕ-discrete x (carrier j))
+          module _ (rows′ columns′ : ℕ → Bool) (new-row : rows′ (carrier j) ≡ true) (old-row : (x : ℕ) → x < m → x ≢ carrier j → rows′ x ≡ rows x)
+              (B : Put columns j true columns′) (l : carrier j < m) where
+            more-rows : (x : ℕ) → x < m → rows x ≡ true → rows′ x ≡ true
+            more-rows x lx e = go (ℕ-discrete x (carrier j))
               where
                 go : Dec (x ≡ carrier j) → rows′ x ≡ true
-                go (yes q) = rw q (A .same)
-                go (no q) = A .other x q ∙ e
+                go (yes q) = rw q new-row
+                go (no q) = old-row x lx q ∙ e
 
             more-columns : (y : ℕ) → columns y ≡ true → columns′ y ≡ true
             more-columns y e = B .other y (other-column y e) ∙ e
@@ -180,7 +215,7 @@ module _ (m : ℕ) (c : ℕ → ℕ → ℕ) (r : ℕ) (u v task carrier : ℕ �
             pub joined : Tree m c r u′ v′ task carrier rows′ columns′ from′ order′ (suc n)
             joined = record {
               low = lr;
-              root = more-rows r (G .root);
+              root = more-rows r lr (G .root);
               row = λ x lx e. row x lx e (ℕ-discrete x (carrier j));
               column = λ y ly e. column y ly e (ℕ-discrete y j);
               numbered = λ y ly e. numbered y ly e (ℕ-discrete y j);
@@ -191,11 +226,11 @@ module _ (m : ℕ) (c : ℕ → ℕ → ℕ) (r : ℕ) (u v task carrier : ℕ �
                 row x lx e (yes q) =
                     let t : task x ≡ j = ap task q ∙ M .task-of j (L .low-column) l in
                     inr (rw t (L .low-column), rw t (B .same))
-                row x lx e (no q) = ⊎-elim (λ z. inl z) (λ z. inr (z .0, more-columns (task x) (z .1))) (G .row x lx (sym (A .other x q) ∙ e))
+                row x lx e (no q) = ⊎-elim (λ z. inl z) (λ z. inr (z .0, more-columns (task x) (z .1))) (G .row x lx (sym (old-row x lx q) ∙ e))
 
                 column : (y : ℕ) → y < m → columns′ y ≡ true → Dec (y ≡ j) → (carrier y < m) × (rows′ (carrier y) ≡ true)
-                column y ly e (yes q) = rw q (l, A .same)
-                column y ly e (no q) = let t = G .column y ly (sym (B .other y q) ∙ e) in (t .0, more-rows (carrier y) (t .1))
+                column y ly e (yes q) = rw q (l, new-row)
+                column y ly e (no q) = let t = G .column y ly (sym (B .other y q) ∙ e) in (t .0, more-rows (carrier y) (t .0) (t .1))
 
                 numbered : (y : ℕ) → y < m → columns′ y ≡ true → Dec (y ≡ j) → order′ y < suc n
                 numbered y ly e (yes q) = rw (q, O .same) (le-refl (suc n))
@@ -204,7 +239,7 @@ module _ (m : ℕ) (c : ℕ → ℕ → ℕ) (r : ℕ) (u v task carrier : ℕ �
                     omega (arith, order-kept y old, G .numbered y ly old)
 
                 reached : (y : ℕ) → y < m → columns′ y ≡ true → Dec (y ≡ j) → Reached m c u′ v′ task rows′ from′ order′ y
-                reached y ly e (yes q) = rw q (new-reached rows′ (more-rows i (L .from-row)))
+                reached y ly e (yes q) = rw q (new-reached rows′ (more-rows i (L .low-row) (L .from-row)))
                 reached y ly e (no q) = old-reached rows′ more-rows y ly (sym (B .other y q) ∙ e)
 
           -- COLUMN j IS FREE: the way back begins there
@@ -216,7 +251,7 @@ module _ (m : ℕ) (c : ℕ → ℕ → ℕ) (r : ℕ) (u v task carrier : ℕ �
             row = G .row;
             column = G .column;
             numbered = λ y ly e. rw (order-kept y e) (G .numbered y ly e);
-            reached = λ y ly e. old-reached rows (λ x q. q) y ly e;
+            reached = λ y ly e. old-reached rows (λ x lx q. q) y ly e;
           }
 
           pub turn-begins : m ≤ carrier j → Turning m c r u′ v′ task carrier rows columns from′ order′ task carrier j

@@ -31,8 +31,9 @@ cells-more f n t x h e C = record {
       (eq-or-lt-of-le (le-of-suc-le-suc (rw add-one at l)));
 }
 
-pub cells-all : (f : ℕ → ℕ → ℕ) (n : ℕ) (t : List ℕ) → 144 ≤ n → Cells f n t → (i j : ℕ) → i < 12 → j < 12 → cell t i j ≡ f i j
-cells-all f n t h C i j li lj =
+-- m rows of them
+pub cells-all : (f : ℕ → ℕ → ℕ) (m n : ℕ) (t : List ℕ) → m ≤ 12 → 12 * m ≤ n → Cells f n t → (i j : ℕ) → i < m → j < m → cell t i j ≡ f i j
+cells-all f m n t small h C i j li lj =
     let p : (i * 12 + j) / 12 ≡ i = omega arith in
     let q : (i * 12 + j) % 12 ≡ j = omega arith in
     C .done (i * 12 + j) (omega arith) ∙ rw (p, q)
@@ -90,16 +91,16 @@ module _ (q : Part) (i j x : ℕ) where
   part-later l e = rw (le-ltb i (q .row) l, ne-eqb i (q .row) e)
 
 -- the working copy of a table
-pub copied-table : (m : ℕ) (table t : List ℕ) → m ≤ 12 → length table ≡ m * m → ((i j : ℕ) → i < 12 → j < 12 → cell t i j ≡ copyEntry m table i j)
+pub copied-table : (m : ℕ) (table t : List ℕ) → m ≤ 12 → length table ≡ m * m → ((i j : ℕ) → i < m → j < m → cell t i j ≡ copyEntry m table i j)
     → copied m t ≡ table
 unfolding copyEntry
 copied-table m table t small e h =
-    square-same m (cell t) (entryAt m table) (λ i j li lj. h i j (omega arith) (omega arith) ∙ rw (lt-ltb i m li, lt-ltb j m lj))
+    square-same m (cell t) (entryAt m table) (λ i j li lj. h i j li lj ∙ rw (lt-ltb i m li, lt-ltb j m lj))
     ∙ square-own m table e
 
 -- the working copy of a part's table
-pub copied-part : (m : ℕ) (table t : List ℕ) (q : Part) → m ≤ 12 → ((i j : ℕ) → i < 12 → j < 12 → cell t i j ≡ partEntry q i j (cell table i j))
+pub copied-part : (m : ℕ) (table t : List ℕ) (q : Part) → m ≤ 12 → ((i j : ℕ) → i < m → j < m → cell t i j ≡ partEntry q i j (cell table i j))
     → copied m t ≡ partTable m (copied m table) q
 copied-part m table t q small h =
     square-same m (cell t) (λ i j. partEntry q i j (entryAt m (copied m table) i j))
-    (λ i j li lj. h i j (omega arith) (omega arith) ∙ ap (partEntry q i j) (sym (square-at m (cell table) i j li lj)))
+    (λ i j li lj. h i j li lj ∙ ap (partEntry q i j) (sym (square-at m (cell table) i j li lj)))

@@ -21,6 +21,6 @@ abbrev pub weightOf : Bool → ℕ → ℕ → ℕ → ℕ
 weightOf merge i j e = cond merge (merged i j e) (weigh e)
 
 -- w has the weights of the entries of t, which are 16-bit words
-pub record Weighed (merge : Bool) (t w : List ℕ) : Type 0 where
-  pub each : (i j : ℕ) → i < 12 → j < 12 → cell w i j ≡ weightOf merge i j (cell t i j)
-  pub words : (i j : ℕ) → i < 12 → j < 12 → cell t i j ≤ barred
+pub record Weighed (m : ℕ) (merge : Bool) (t w : List ℕ) : Type 0 where
+  pub each : (i j : ℕ) → i < m → j < m → cell w i j ≡ weightOf merge i j (cell t i j)
+  pub words : (i j : ℕ) → i < m → j < m → cell t i j ≤ barred

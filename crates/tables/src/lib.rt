@@ -47,7 +47,8 @@ pub fn filled(m: usize, table: &[u16]) -> [u16; 144]
     ensures { λ r. ⌜ copied m r ≡ now (table .entry) ⌝ }
 {
     let mut t = [65535u16; 144];
-    for k in 0..144usize {
+    let end = 12 * m;
+    for k in 0..end {
         let x = copied_entry(m, table, k / 12, k % 12);
         t[k] = x;
     }
@@ -74,12 +75,19 @@ fn part_entry(tasks: &[u8; 12], row: usize, closed: &[u8; 12], i: usize, j: usiz
 }
 
 // The working copy of a table for a part: the carriers before `row` keep their tasks, carrier `row` has none that is closed.
-pub fn part(table: &[u16; 144], tasks: &[u8; 12], row: usize, closed: &[u8; 12]) -> [u16; 144]
-    requires { ⌜ row < 12 ⌝ }
-    ensures { λ r. ⌜ ((m : ℕ) → m ≤ 12 → copied m r ≡ partTable m (copied m (now (table .entry))) (partAt row (now (tasks .entry)) (now (closed .entry)))) ⌝ }
+pub fn part(
+    m: usize,
+    table: &[u16; 144],
+    tasks: &[u8; 12],
+    row: usize,
+    closed: &[u8; 12],
+) -> [u16; 144]
+    requires { ⌜ (m ≤ 12) × (row < 12) ⌝ }
+    ensures { λ r. ⌜ copied m r ≡ partTable m (copied m (now (table .entry))) (partAt row (now (tasks .entry)) (now (closed .entry))) ⌝ }
 {
     let mut t = [65535u16; 144];
-    for k in 0..144usize {
+    let end = 12 * m;
+    for k in 0..end {
         let x = part_entry(tasks, row, closed, k / 12, k % 12, table[k]);
         t[k] = x;
     }
@@ -133,12 +141,14 @@ fn weight(merge: bool, x: u16, i: usize, j: usize) -> u64
     }
 }
 
-// The weights of a table's entries.
-pub fn weights(t: &[u16; 144], merge: bool) -> [u64; 144]
-    ensures { λ r. ⌜ Weighed merge (now (t .entry)) r ⌝ }
+// The weights of the entries of a table of m by m.
+pub fn weights(m: usize, t: &[u16; 144], merge: bool) -> [u64; 144]
+    requires { ⌜ m ≤ 12 ⌝ }
+    ensures { λ r. ⌜ Weighed m merge (now (t .entry)) r ⌝ }
 {
     let mut w = [0u64; 144];
-    for k in 0..144usize {
+    let end = 12 * m;
+    for k in 0..end {
         let x = weight(merge, t[k], k / 12, k % 12);
         w[k] = x;
     }

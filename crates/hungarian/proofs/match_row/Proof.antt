@@ -19,28 +19,26 @@ abbrev μ-loop : tie.MeasureT-loop
 μ-loop m w r u v task₀ carrier₀ from j₀ counter₀ task carrier j counter = 12 - counter
 
 -- what the tree reached
-reaches : (g : tie.After-grow Inv-loop μ-loop) → let s = g .before .before .before .before .before in let a = s .args in let o = g .grow .last .1 .1 .1 .1 in
+reaches : (g : tie.After-grow Inv-loop μ-loop) → let s = g .before .before .before .before .before .before in let a = s .args in let o = g .grow .last .1 .1 .1 .1 .1 in
     Reaches (a .m) (a .w .now) (a .r) (o .0) (o .1 .0) (o .1 .1 .0) (a .task .now) (a .carrier .now) (g .grow .result)
-reaches g =
-    let s = g .before .before .before .before .before in
-    g .grow .ensures (s .args .task .now) (s .pre .3)
+reaches g = g .grow .ensures
 
 -- the column at hand, and the row that it was reached from
-low : (l : tie.At-loop Inv-loop μ-loop) → (l .loop .j < 12) × (l .before .grow .last .1 .1 .1 .1 .1 .1 .0 at (l .loop .j) < 12)
+low : (l : tie.At-loop Inv-loop μ-loop) → (l .loop .j < 12) × (l .before .grow .last .1 .1 .1 .1 .1 .1 .1 .0 at (l .loop .j) < 12)
 low l =
-    let s = l .before .before .before .before .before .before in
-    let o = l .before .grow .last .1 .1 .1 .1 in
+    let s = l .before .before .before .before .before .before .before in
+    let o = l .before .grow .last .1 .1 .1 .1 .1 in
     let b = way-low (s .args .m) (s .args .w .now) (s .args .r) (s .pre .0) (s .pre .1) (o .0) (o .1 .0) (o .1 .1 .0) (l .loop .task) (l .loop .carrier) (l .loop .j) (l .loop .counter) (l .loop .inv .1) in
     (omega (arith, b .0, s .pre .0), omega (arith, b .1, s .pre .0))
 
 grow-requires : tie.Need-grow-requires Inv-loop μ-loop
 grow-requires c κs =
-    let s = c .before .before .before .before in
-    ((s .pre .0, s .pre .1, s .pre .2, refl), (s .args .task .now, s .pre .3))
+    let s = c .before .before .before .before .before in
+    (s .pre .0, s .pre .1, s .pre .2, s .pre .3, refl)
 
 loop-holds : tie.Need-loop-holds Inv-loop μ-loop
 loop-holds c =
-    let s = c .before .before .before .before .before in
+    let s = c .before .before .before .before .before .before in
     (omega arith, reaches c .way, s .pre .3 .sizes .2, s .pre .3 .sizes .3)
 
 mul-i : tie.Need-mul-i Inv-loop μ-loop
@@ -70,8 +68,8 @@ element-write-carrier c = omega (arith, low (c .before .before))
 returns : tie.Need-returns Inv-loop μ-loop
 returns c =
     let l = c .before .before .before in
-    let s = l .before .before .before .before .before .before in
-    let o = l .before .grow .last .1 .1 .1 .1 in
+    let s = l .before .before .before .before .before .before .before in
+    let o = l .before .grow .last .1 .1 .1 .1 .1 in
     let R = reaches (l .before) in
     record {
       matches = way-ends (s .args .m) (s .args .w .now) (s .args .r) (s .pre .0) (s .pre .1) (o .0) (o .1 .0) (o .1 .1 .0) (l .loop .task) (l .loop .carrier) (l .loop .j) (l .loop .counter) (l .loop .inv .1) (l .loop .inv .2) (l .loop .inv .3) (c .if1 .taken);
@@ -88,8 +86,8 @@ loop-less c = omega arith
 loop-again : tie.Need-loop-again Inv-loop μ-loop
 loop-again c =
     let l = c .before .before .before in
-    let s = l .before .before .before .before .before .before in
-    let o = l .before .grow .last .1 .1 .1 .1 in (
+    let s = l .before .before .before .before .before .before .before in
+    let o = l .before .grow .last .1 .1 .1 .1 .1 in (
       omega arith,
       way-next (s .args .m) (s .args .w .now) (s .args .r) (s .pre .0) (s .pre .1) (o .0) (o .1 .0) (o .1 .1 .0) (l .loop .task) (l .loop .carrier) (l .loop .j) (l .loop .counter) (l .loop .inv .1) (l .loop .inv .2) (l .loop .inv .3) (c .if1 .left),
       length-set (l .loop .task) _ _ ∙ l .loop .inv .2,

@@ -1,27 +1,23 @@
 -- `hungarian::nearer` meets its contract. Assumes nothing.
-use borrow.Author.Needs.{needs}
-use Rattle.hungarian.proofs.Edges.{nearer-marked, nearer-less, nearer-kept}
+use native.Mathlib.Omega.{arith}
+use Rattle.hungarian.proofs.Labels.{nearer-marked, nearer-less, nearer-kept}
 use Rattle.hungarian.proofs.nearer.Statement.{statement}
 use Rattle.hungarian.proofs.nearer.Tie as tie
 
-element-copy-out-if1 : tie.Need-element-copy-out-if1
-element-copy-out-if1 c = search needs
-
 returns : tie.Need-returns
-returns c = nearer-marked _ _ _ _ _ _ _ (c .if1 .taken)
+returns c = nearer-marked _ _ _ _ _ (c .if1 .taken)
 
-slack-requires : tie.Need-slack-requires
-slack-requires c κs = search needs
+sub-if2 : tie.Need-sub-if2
+sub-if2 c = c .before .before .pre (c .before .if1 .left)
+
+add-t9 : tie.Need-add-t9
+add-t9 c = omega (arith, c .before .before .before .pre (c .before .before .if1 .left))
 
 returns-2 : tie.Need-returns-2
-returns-2 c =
-    let b = c .before .before in
-    nearer-less _ _ _ _ _ _ _ (b .slack .result) (b .slack .ensures) (b .before .if1 .left) (c .if2 .taken)
+returns-2 c = nearer-less _ _ _ _ _ (c .before .before .if1 .left) (c .if2 .taken)
 
 returns-3 : tie.Need-returns-3
-returns-3 c =
-    let b = c .before .before in
-    nearer-kept _ _ _ _ _ _ _ (b .slack .result) (b .slack .ensures) (b .before .if1 .left) (c .if2 .left)
+returns-3 c = nearer-kept _ _ _ _ _ (c .before .before .if1 .left) (c .if2 .left)
 
 pub nearer-spec : {M : Type 1} → statement M
-nearer-spec = tie.close (tie.spec element-copy-out-if1 returns slack-requires returns-2 returns-3)
+nearer-spec = tie.close (tie.spec returns sub-if2 add-t9 returns-2 returns-3)

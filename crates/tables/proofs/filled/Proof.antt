@@ -1,5 +1,5 @@
 -- `tables::filled` meets its contract. Assumes nothing.
-use Prim.Native.Nat.{_≤_, _-_}
+use Prim.Native.Nat.{_≤_, _-_, _*_}
 use mathlib.Core.Path.{refl}
 use native.Mathlib.Omega.{arith}
 use Rattle.tables.specs.Copies.{copyEntry}
@@ -8,10 +8,13 @@ use Rattle.tables.proofs.filled.Statement.{statement}
 use Rattle.tables.proofs.filled.Tie as tie
 
 abbrev Inv-loop : tie.InvT-loop
-Inv-loop m table t₀ k₀ t k = (k ≤ 144) × Cells (copyEntry m table) k t
+Inv-loop m table t₀ end k₀ t k = (k ≤ 12 * m) × Cells (copyEntry m table) k t
 
 abbrev μ-loop : tie.MeasureT-loop
-μ-loop m table t₀ k₀ t k = 144 - k
+μ-loop m table t₀ end k₀ t k = 12 * m - k
+
+mul-end : tie.Need-mul-end Inv-loop μ-loop
+mul-end c = omega arith
 
 loop-holds : tie.Need-loop-holds Inv-loop μ-loop
 loop-holds c = (omega arith, cells-none _ _ refl)
@@ -39,7 +42,7 @@ loop-again c =
 returns : tie.Need-returns Inv-loop μ-loop
 returns c =
     let s = c .before .before .before in
-    copied-table _ _ (c .before .loop .t) (s .pre .0) (s .pre .1) (cells-all (copyEntry (s .args .m) (s .args .table .now)) _ _ (omega arith) (c .before .loop .inv .1))
+    copied-table _ _ (c .before .loop .t) (s .pre .0) (s .pre .1) (cells-all (copyEntry (s .args .m) (s .args .table .now)) _ _ _ (s .pre .0) (omega arith) (c .before .loop .inv .1))
 
 pub filled-spec : {M : Type 1} → statement M
 filled-spec =
@@ -47,6 +50,7 @@ filled-spec =
     (tie.spec
     Inv-loop
     μ-loop
+    mul-end
     loop-holds
     copied-entry-requires
     mul-t

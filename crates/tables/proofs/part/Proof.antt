@@ -1,5 +1,5 @@
 -- `tables::part` meets its contract. Assumes nothing.
-use Prim.Native.Nat.{_≤_, _-_, _/_, _%_}
+use Prim.Native.Nat.{_≤_, _-_, _/_, _%_, _*_}
 use mathlib.Core.Path.{refl, ap, _∙_}
 use native.Mathlib.Omega.{arith}
 use Rattle.prices.specs.Square.{cell}
@@ -10,10 +10,13 @@ use Rattle.tables.proofs.part.Statement.{statement}
 use Rattle.tables.proofs.part.Tie as tie
 
 abbrev Inv-loop : tie.InvT-loop
-Inv-loop table tasks row closed t₀ k₀ t k = (k ≤ 144) × Cells (λ i j. partEntry (partAt row tasks closed) i j (cell table i j)) k t
+Inv-loop m table tasks row closed t₀ end k₀ t k = (k ≤ 12 * m) × Cells (λ i j. partEntry (partAt row tasks closed) i j (cell table i j)) k t
 
 abbrev μ-loop : tie.MeasureT-loop
-μ-loop table tasks row closed t₀ k₀ t k = 144 - k
+μ-loop m table tasks row closed t₀ end k₀ t k = 12 * m - k
+
+mul-end : tie.Need-mul-end Inv-loop μ-loop
+mul-end c = omega arith
 
 loop-holds : tie.Need-loop-holds Inv-loop μ-loop
 loop-holds c = (omega arith, cells-none _ _ refl)
@@ -25,7 +28,7 @@ element-copy-out-part-entry : tie.Need-element-copy-out-part-entry Inv-loop μ-l
 element-copy-out-part-entry c = omega arith
 
 part-entry-requires : tie.Need-part-entry-requires Inv-loop μ-loop
-part-entry-requires c κs = (c .before .before .before .pre, omega arith)
+part-entry-requires c κs = (c .before .before .before .pre .1, omega arith)
 
 mul-t : tie.Need-mul-t Inv-loop μ-loop
 mul-t c = omega arith
@@ -51,9 +54,11 @@ loop-again c =
 
 returns : tie.Need-returns Inv-loop μ-loop
 returns c =
-    let a = c .before .before .args in
-    λ m small. copied-part m (a .table .now) (c .before .loop .t) (partAt (a .row) (a .tasks .now) (a .closed .now)) small
-    (cells-all (λ i j. partEntry (partAt (a .row) (a .tasks .now) (a .closed .now)) i j (cell (a .table .now) i j)) _ _ (omega arith) (c .before .loop .inv .1))
+    let s = c .before .before in
+    let a = s .args in
+    let q = partAt (a .row) (a .tasks .now) (a .closed .now) in
+    copied-part (a .m) (a .table .now) (c .before .loop .t) q (s .pre .0)
+    (cells-all (λ i j. partEntry q i j (cell (a .table .now) i j)) _ _ _ (s .pre .0) (omega arith) (c .before .loop .inv .1))
 
 pub part-spec : {M : Type 1} → statement M
 part-spec =
@@ -61,6 +66,7 @@ part-spec =
     (tie.spec
     Inv-loop
     μ-loop
+    mul-end
     loop-holds
     mul-part-entry
     element-copy-out-part-entry

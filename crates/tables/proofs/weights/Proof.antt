@@ -1,5 +1,5 @@
 -- `tables::weights` meets its contract. Assumes nothing.
-use Prim.Native.Nat.{ℕ, _≤_, _<_, _-_, _/_, _%_}
+use Prim.Native.Nat.{ℕ, _≤_, _<_, _-_, _/_, _%_, _*_}
 use mathlib.Core.Path.{refl, ap, _∙_}
 use native.Mathlib.Omega.{arith}
 use native.Mathlib.Nat.{not-suc-le-zero}
@@ -12,11 +12,14 @@ use Rattle.tables.proofs.weights.Statement.{statement}
 use Rattle.tables.proofs.weights.Tie as tie
 
 abbrev Inv-loop : tie.InvT-loop
-Inv-loop t merge w₀ k₀ w k =
-    (k ≤ 144) × Cells (λ i j. weightOf merge i j (cell t i j)) k w × ((n : ℕ) → n < k → t at n ≤ 65535)
+Inv-loop m t merge w₀ end k₀ w k =
+    (k ≤ 12 * m) × Cells (λ i j. weightOf merge i j (cell t i j)) k w × ((n : ℕ) → n < k → t at n ≤ 65535)
 
 abbrev μ-loop : tie.MeasureT-loop
-μ-loop t merge w₀ k₀ w k = 144 - k
+μ-loop m t merge w₀ end k₀ w k = 12 * m - k
+
+mul-end : tie.Need-mul-end Inv-loop μ-loop
+mul-end c = omega arith
 
 loop-holds : tie.Need-loop-holds Inv-loop μ-loop
 loop-holds c = (omega arith, cells-none _ _ refl, λ n l. absurd (not-suc-le-zero l))
@@ -56,9 +59,10 @@ loop-again c =
 returns : tie.Need-returns Inv-loop μ-loop
 returns c =
     let l = c .before .loop in
-    let a = c .before .before .args in
+    let s = c .before .before in
+    let a = s .args in
     record {
-      each = cells-all (λ i j. weightOf (a .merge) i j (cell (a .t .now) i j)) (l .k) (l .w) (omega arith) (l .inv .1);
+      each = cells-all (λ i j. weightOf (a .merge) i j (cell (a .t .now) i j)) (a .m) (l .k) (l .w) (s .pre) (omega arith) (l .inv .1);
       words = λ i j li lj. l .inv .2 _ (omega arith);
     }
 
@@ -68,6 +72,7 @@ weights-spec =
     (tie.spec
     Inv-loop
     μ-loop
+    mul-end
     loop-holds
     mul-weight
     element-copy-out-weight

@@ -1,0 +1,217 @@
+// The assignments that remain, in the records of the roots: Murty's parts, each in a slot of the root that it was split from, with
+// its first assignment. The next assignment in order is the first of these.
+use assignment::order;
+use assignment::order::Candidate;
+ghost use mathlib.Core.Path.{_≡_};
+ghost use mathlib.Core.Bool.{true};
+ghost use mathlib.Core.List.{List, [], _∷_};
+ghost use mathlib.Core.Option.{some};
+ghost use Prim.Native.Nat.{ℕ, _+_, _*_, _-_, _<_, _≤_};
+ghost use lib.ListN.{length, getD, set, take, replicate};
+ghost use Rattle.deck.specs.Lists.{countFrom};
+ghost use Rattle.deck.specs.Assignments.{leastAssignment, assignmentsInOrder};
+ghost use Rattle.deck.specs.Calls.{taskList};
+ghost use Rattle.meaning.specs.Meaning.{_at_};
+ghost use Rattle.prices.specs.Square.{copied};
+ghost use Rattle.records.specs.Record.{fieldsAt, tasksIn, rowIn, closedIn, slotIn, slotTasksIn, bytes, withSlot, Wrote};
+ghost use Rattle.roots.specs.Slots.{slotsAt, Older, PartKept, SlotsHold, Filled, RootMade};
+ghost use Rattle.roots.specs.Choices.{slotBefore, betterOf, overSlots, Inside, ChosenOf, partOf, Cleared, slotWords, NextTaken};
+ghost use Rattle.roots.specs.Begun.{RootBegun};
+
+// The slot to take next.
+pub enum Choice {
+    Nothing,
+    Slot { n: usize, j: usize },
+}
+
+// What the root of an assignment is made of: its list of 12, and the row and the closed tasks of its part.
+pub struct RootPart {
+    pub tasks: [u8; 12],
+    pub row: usize,
+    pub closed: [u8; 12],
+}
+
+fn wide(x: u32) -> usize
+    ensures { λ r. ⌜ (r ≡ x) × (r < 4294967296) ⌝ }
+{
+    x as usize
+}
+
+// THE CHOICE
+
+// The tasks of slot j of root n, for a comparison by list alone.
+fn listed(work: &[u32], n: usize, j: usize) -> Candidate
+    requires { ⌜ (512 * n + 512 ≤ length (now work)) × (j < 12) ⌝ }
+    ensures { λ r. ⌜ (r .sum ≡ 0) × (r .tasks ≡ bytes (slotTasksIn (fieldsAt (now (work .entry)) n) j)) ⌝ }
+{
+    Candidate {
+        found: true,
+        sum: 0,
+        tasks: records::slot_tasks(work, n, j),
+    }
+}
+
+// Whether slot j of root n comes before slot q of root p: by sum, then by list.
+fn slot_before(work: &[u32], n: usize, j: usize, p: usize, q: usize) -> bool
+    requires { ⌜ (512 * n + 512 ≤ length (now work)) × (j < 12) × (512 * p + 512 ≤ length (now work)) × (q < 12) ⌝ }
+    ensures { λ r. ⌜ r ≡ slotBefore (fieldsAt (now (work .entry)) n) j (fieldsAt (now (work .entry)) p) q ⌝ }
+{
+    let s = records::slot_sum(work, n, j);
+    let t = records::slot_sum(work, p, q);
+    if s < t {
+        return true;
+    }
+    if t < s {
+        return false;
+    }
+    order::comes_before(listed(work, n, j), listed(work, p, q))
+}
+
+// The first of a choice and slot j of root n.
+fn better(work: &[u32], n: usize, j: usize, b: Choice) -> Choice
+    requires { ⌜ (512 * n + 512 ≤ length (now work)) × (j < 12) × Inside (length (now work)) b ⌝ }
+    ensures { λ r. ⌜ (r ≡ betterOf (now (work .entry)) n j b) × Inside (length (now (work .entry))) r ⌝ }
+{
+    if !records::slot_flag(work, n, j) {
+        return b;
+    }
+    match b {
+        Choice::Nothing => Choice::Slot { n: n, j: j },
+        Choice::Slot { n: p, j: q } => {
+            if slot_before(work, n, j, p, q) {
+                Choice::Slot { n: n, j: j }
+            } else {
+                Choice::Slot { n: p, j: q }
+            }
+        }
+    }
+}
+
+// The first of a choice and the slots of root n.
+fn best_in(work: &[u32], m: usize, n: usize, b: Choice) -> Choice
+    requires { ⌜ (m ≤ 12) × (512 * n + 512 ≤ length (now work)) × Inside (length (now work)) b ⌝ }
+    ensures { λ r. ⌜ (r ≡ overSlots (now (work .entry)) n (countFrom (rowIn (fieldsAt (now (work .entry)) n)) (m - rowIn (fieldsAt (now (work .entry)) n))) b) × Inside (length (now (work .entry))) r ⌝ }
+{
+    let from = records::row_of(work, n);
+    let mut best = b;
+    for j in from..m {
+        best = better(work, n, j, best);
+    }
+    best
+}
+
+// The slot whose assignment comes first. `latest` is the number of the latest root + 1, or 0 without a root.
+pub fn next_slot(work: &[u32], m: usize, latest: usize) -> Choice
+    requires { ⌜ (m ≤ 12) × (512 * latest ≤ length (now work)) × Older (now work) latest ⌝ }
+    ensures { λ r. ⌜ ChosenOf m (now (work .entry)) latest (slotsAt m (now (work .entry)) latest) r ⌝ }
+{
+    let mut best = Choice::Nothing;
+    let mut at = latest;
+    while at != 0 {
+        best = best_in(work, m, at - 1, best);
+        at = records::older_of(work, at - 1);
+    }
+    best
+}
+
+// TAKING AND FILLING
+
+// Takes slot j of root n: what the root of its assignment is made of.
+pub fn take_slot(work: &mut [u32], n: usize, j: usize) -> RootPart
+    requires { ⌜ (512 * n + 512 ≤ length (now work)) × (j < 12) × (tasksIn (fieldsAt (now work) n) at j < 12) ⌝ }
+    ensures { λ r. ⌜ (r ≡ partOf (fieldsAt (now (work .entry)) n) j) × Cleared (now (work .entry)) (now (work .exit)) n j ⌝ }
+{
+    let tasks = records::tasks_of(work, n);
+    let row = records::row_of(work, n);
+    let closed = records::closed_of(work, n);
+    let first = records::slot_tasks(work, n, j);
+    records::slot_take(work, n, j);
+    RootPart {
+        tasks: first,
+        row: j,
+        closed: order::slot_closed(&tasks, row, &closed, j),
+    }
+}
+
+// Stores a candidate in slot j of root n, or empties the slot where there is none.
+fn store_slot(work: &mut [u32], n: usize, j: usize, c: Candidate)
+    requires { ⌜ (512 * n + 512 ≤ length (now work)) × (j < 12) ⌝ }
+    ensures { λ _. ⌜ Wrote (now (work .entry)) (now (work .exit)) n (withSlot (fieldsAt (now (work .entry)) n) j (slotWords c (slotIn (fieldsAt (now (work .entry)) n) j))) ⌝ }
+{
+    let tasks = c.tasks;
+    if c.found {
+        records::slot_set(work, n, j, wide(c.sum), tasks);
+    } else {
+        records::slot_take(work, n, j);
+    }
+}
+
+// Fills the slots of root n: each with the first assignment of its part. t is the working copy of the table.
+pub fn fill_slots(work: &mut [u32], m: usize, t: &[u16; 144], n: usize)
+    requires { ⌜ (m ≤ 12) × (512 * n + 512 ≤ length (now work)) × PartKept m (tasksIn (fieldsAt (now work) n)) (closedIn (fieldsAt (now work) n)) ⌝ }
+    ensures { λ _. ⌜ Filled m (copied m (now (t .entry))) (now (work .entry)) (now (work .exit)) n ⌝ }
+{
+    let tasks = records::tasks_of(work, n);
+    let row = records::row_of(work, n);
+    let closed = records::closed_of(work, n);
+    for j in row..m {
+        let c = order::slot_candidate(m, t, &tasks, row, &closed, j);
+        store_slot(work, n, j, c);
+    }
+}
+
+// Writes the record of root n without its paths, and fills its slots.
+pub fn make_root(work: &mut [u32], m: usize, t: &[u16; 144], n: usize, root: RootPart, older: usize)
+    requires { ⌜ (m ≤ 12) × (512 * n + 512 ≤ length (now work)) × (root .row < 4294967296) × (older < 4294967296) × PartKept m (root .tasks) (root .closed) ⌝ }
+    ensures { λ _. ⌜ RootMade m (copied m (now (t .entry))) (now (work .entry)) (now (work .exit)) n (root .tasks) (root .row) (root .closed) older ⌝ }
+{
+    let tasks = root.tasks;
+    let row = root.row;
+    let closed = root.closed;
+    records::begin_root(work, n, tasks, row, closed, older);
+    fill_slots(work, m, t, n);
+}
+
+// Makes the record of the first root, of number 0, whose list of 12 is that of the least assignment.
+pub fn first_root(work: &mut [u32], m: usize, t: &[u16; 144], tasks: [u8; 12])
+    requires { ⌜ (0 < m) × (m ≤ 12) × (512 ≤ length (now work)) × ((a : List ℕ) × (leastAssignment m (copied m (now t)) ≡ some a) × (tasks ≡ taskList a)) ⌝ }
+    ensures begun { λ _. ⌜ RootBegun (now (work .entry)) (now (work .exit)) 0 tasks ⌝ }
+    ensures hold { λ _. ⌜ NextTaken m (copied m (now (t .entry))) (now (work .exit)) 1 (assignmentsInOrder m (copied m (now (t .entry)))) tasks ⌝ }
+{
+    let none = [0u8; 12];
+    make_root(
+        work,
+        m,
+        t,
+        0,
+        RootPart {
+            tasks: tasks,
+            row: 0,
+            closed: none,
+        },
+        0,
+    );
+}
+
+// Makes the record of the next root, of number `made`, of the chosen slot: the root's list of 12. After it the latest root is
+// `made`.
+pub fn next_root(
+    work: &mut [u32],
+    m: usize,
+    t: &[u16; 144],
+    latest: usize,
+    made: usize,
+    n: usize,
+    j: usize,
+) -> [u8; 12]
+    requires { ⌜ (m ≤ 12) × (latest ≤ made) × (made ≤ 4096) × (512 * made + 512 ≤ length (now work)) ⌝ }
+    requires { ⌜ ChosenOf m (now work) latest (slotsAt m (now work) latest) (Choice.Slot n j) ⌝ }
+    requires { ⌜ ((rest : List (List ℕ)) × SlotsHold m (copied m (now t)) (now work) latest rest) ⌝ }
+    ensures begun { λ r. ⌜ RootBegun (now (work .entry)) (now (work .exit)) made r ⌝ }
+    ensures hold { λ r. ⌜ ((rest : List (List ℕ)) → SlotsHold m (copied m (now (t .entry))) (now (work .entry)) latest rest → NextTaken m (copied m (now (t .entry))) (now (work .exit)) (made + 1) rest r) ⌝ }
+{
+    let root = take_slot(work, n, j);
+    let tasks = root.tasks;
+    make_root(work, m, t, made, root, latest);
+    tasks
+}
