@@ -11,7 +11,7 @@ use lib.ListN.{set, take, length, replicate, List·getD-append}
 use lib.Seq.{getD-set-same, getD-set-other, set-out, take-at, getD-take}
 use lib.Dec.{eqb}
 use borrow.Author.Tests.{eq-eqb, ne-eqb}
-use Rattle.deck.specs.Lists.{countFrom}
+use Rattle.deck.specs.Lists.{countFrom, each}
 use Rattle.deck.specs.Assignments.{assignmentsInOrder, leastAssignment}
 use Rattle.deck.specs.Calls.{taskList}
 use Rattle.meaning.specs.Meaning.{_at_, Assignment}

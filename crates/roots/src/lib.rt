@@ -3,11 +3,10 @@
 use assignment::order;
 use assignment::order::Candidate;
 ghost use mathlib.Core.Path.{_≡_};
-ghost use mathlib.Core.Bool.{true};
-ghost use mathlib.Core.List.{List, [], _∷_};
+ghost use mathlib.Core.List.{List};
 ghost use mathlib.Core.Option.{some};
 ghost use Prim.Native.Nat.{ℕ, _+_, _*_, _-_, _<_, _≤_};
-ghost use lib.ListN.{length, getD, set, take, replicate};
+ghost use lib.ListN.{length};
 ghost use Rattle.deck.specs.Lists.{countFrom};
 ghost use Rattle.deck.specs.Assignments.{leastAssignment, assignmentsInOrder};
 ghost use Rattle.deck.specs.Calls.{taskList};
@@ -133,16 +132,16 @@ pub fn take_slot(work: &mut [u32], n: usize, j: usize) -> RootPart
     }
 }
 
-// Stores a candidate in slot j of root n, or empties the slot where there is none.
-fn store_slot(work: &mut [u32], n: usize, j: usize, c: Candidate)
-    requires { ⌜ (512 * n + 512 ≤ length (now work)) × (j < 12) ⌝ }
-    ensures { λ _. ⌜ Wrote (now (work .entry)) (now (work .exit)) n (withSlot (fieldsAt (now (work .entry)) n) j (slotWords c (slotIn (fieldsAt (now (work .entry)) n) j))) ⌝ }
+// Stores a candidate in a slot of root n, or empties the slot where there is none.
+fn store_slot(work: &mut [u32], n: usize, slot: usize, c: Candidate)
+    requires { ⌜ (512 * n + 512 ≤ length (now work)) × (slot < 12) ⌝ }
+    ensures { λ _. ⌜ Wrote (now (work .entry)) (now (work .exit)) n (withSlot (fieldsAt (now (work .entry)) n) slot (slotWords c (slotIn (fieldsAt (now (work .entry)) n) slot))) ⌝ }
 {
     let tasks = c.tasks;
     if c.found {
-        records::slot_set(work, n, j, wide(c.sum), tasks);
+        records::slot_set(work, n, slot, wide(c.sum), tasks);
     } else {
-        records::slot_take(work, n, j);
+        records::slot_take(work, n, slot);
     }
 }
 

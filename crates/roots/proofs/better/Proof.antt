@@ -1,4 +1,5 @@
 -- `better` meets its contract, by the flag and by the choice so far. Assumes nothing.
+use native.Mathlib.Omega.{arith}
 use mathlib.Core.Path.{subst}
 use lib.ListN.{length}
 use denote.Ref.{now}
@@ -24,9 +25,8 @@ enum-known-b c = search needs
 
 slot-before-requires : tie.Need-slot-before-requires
 slot-before-requires c κs =
-    let pre = c .before .before .before .before .before .before .pre in
-    let old = subst (Inside (length (now (c .before .before .before .before .before .before .args .work)))) (c .before .b .given .1) (pre .2) in
-    (pre .0, pre .1, old .0, old .1)
+    let old = subst (Inside (length (now (c .before .before .before .before .before .before .args .work)))) (c .before .b .given .1) (c .before .before .before .before .before .before .pre .2) in
+    omega (arith, old .0, old .1)
 
 returns-2 : tie.Need-returns-2
 returns-2 c =

@@ -20,7 +20,7 @@ same-length c = search needs
 returns : tie.Need-returns
 returns c =
     let a = c .before .before .before .before .before .before .before .before .args in
-    stored-some (now (a .work)) _ (a .n) (a .j) (a .c) _ (c .before .before .before .before .before .if1 .taken) (c .before .before .before .wide .ensures .0) (c .before .before .slot-set .ensures)
+    stored-some (now (a .work)) _ (a .n) (a .slot) (a .c) _ (c .before .before .before .before .before .if1 .taken) (c .before .before .before .wide .ensures .0) (c .before .before .slot-set .ensures)
 
 same-length-2 : tie.Need-same-length-2
 same-length-2 c = search needs
@@ -28,7 +28,7 @@ same-length-2 c = search needs
 returns-2 : tie.Need-returns-2
 returns-2 c =
     let a = c .before .before .before .before .before .before .before .args in
-    stored-none (now (a .work)) _ (a .n) (a .j) (a .c) (c .before .before .before .before .if1 .left) (c .before .before .slot-take .ensures)
+    stored-none (now (a .work)) _ (a .n) (a .slot) (a .c) (c .before .before .before .before .if1 .left) (c .before .before .slot-take .ensures)
 
 pub store-slot-spec : {M : Type 1} → statement M
 store-slot-spec =
