@@ -116,3 +116,19 @@ length-lent a k xs h =
 
 pub length-back : (a k : ℕ) (ys xs : List ℕ) → length ys ≡ k → a + k ≤ length xs → length (take a xs ++ (ys ++ drop (a + k - a) (drop a xs))) ≡ length xs
 length-back a k ys xs e h = simp (length-append, length-drop, length-take-le a xs (omega arith)) (omega arith)
+
+-- a word of waits
+shift-zero : (j : ℕ) → shift 0 j ≡ 0
+unfolding shift
+shift-zero zero = refl
+shift-zero (suc j) = rw (shift-zero j)
+
+pub place-waits : (w p j : ℕ) → p < 65536 → placeFrom w p 0 j ≡ p
+unfolding placeFrom movedOf
+place-waits w p zero h = refl
+place-waits w p (suc j) h = rw (place-waits w p j h, shift-zero j, add-zero) (mod-eq-of-lt h)
+
+pub tab-same : (f g : ℕ → ℕ) (n : ℕ) → ((j : ℕ) → f j ≡ g j) → tab f n ≡ tab g n
+unfolding tab
+tab-same f g zero h = refl
+tab-same f g (suc n) h = rw (tab-same f g n h, h n)

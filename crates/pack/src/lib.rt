@@ -89,7 +89,7 @@ pub fn pack(path: &[u16], w: usize, last: usize, out: &mut [u32])
 
 // The places that the steps of one word lead to from p, one for each element of `out`: the last of them. A step adds one of
 // five differences modulo 65536, so that there is no branch.
-fn stretch(word: u32, w: usize, p: usize, out: &mut [u16]) -> usize
+fn steps(word: u32, w: usize, p: usize, out: &mut [u16]) -> usize
     requires { ⌜ (p < 65536) × (w ≤ 32) ⌝ }
     ensures { λ r. ⌜ (r ≡ placeFrom w p word (length (now (out .entry)))) × (r < 65536) × (now (out .exit) ≡ tab (λ j. placeFrom w p word (j + 1)) (length (now (out .entry)))) ⌝ }
 {
@@ -104,6 +104,27 @@ fn stretch(word: u32, w: usize, p: usize, out: &mut [u16]) -> usize
         out[j] = narrow(q);
     }
     q
+}
+
+// The place p throughout.
+fn waits(p: u16, out: &mut [u16])
+    ensures { λ _. ⌜ now (out .exit) ≡ tab (λ _. p) (length (now (out .entry))) ⌝ }
+{
+    for j in 0..out.len() {
+        out[j] = p;
+    }
+}
+
+// The same for any word. A word of waits, as all words past a path's finish are, is filled without a look at its digits.
+fn stretch(word: u32, w: usize, p: usize, out: &mut [u16]) -> usize
+    requires { ⌜ (p < 65536) × (w ≤ 32) ⌝ }
+    ensures { λ r. ⌜ (r ≡ placeFrom w p word (length (now (out .entry)))) × (r < 65536) × (now (out .exit) ≡ tab (λ j. placeFrom w p word (j + 1)) (length (now (out .entry)))) ⌝ }
+{
+    if word == 0 {
+        waits(narrow(p), out);
+        return p;
+    }
+    steps(word, w, p, out)
 }
 
 pub fn unpack(words: &[u32], w: usize, last: usize, start: usize, out: &mut [u16])
