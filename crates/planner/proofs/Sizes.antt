@@ -1,0 +1,132 @@
+-- The values of every answer fit words of 32 bits. Assumes nothing.
+use Prim.Native.Nat.{ℕ, zero, suc, _+_, _*_, _≤_, _<_}
+use mathlib.Core.Path.{_≡_, refl, sym}
+use mathlib.Core.Logic.{⊎-elim}
+use mathlib.Core.List.{List, [], _∷_}
+use mathlib.Core.Option.{Option, none, some}
+use native.Mathlib.Nat.{mul-le-mul-right, suc-mul}
+use native.Mathlib.Omega.{arith}
+use lib.ListN.{length, getD}
+use Rattle.deck.specs.Lists.{sum, pieces}
+use Rattle.deck.specs.Sheet.{read, area, countOf, startOf}
+use Rattle.deck.specs.Paths.{leastPath}
+use Rattle.deck.specs.Assignments.{leastAssignment, sumOf, entries, barred}
+use Rattle.deck.specs.Calls.{constraintsOf, pathCause, pathFound, pathAnswerFor, assignmentCause, leastFor, assignmentKind}
+use Rattle.deck.specs.declared.Carrier.{Carrier}
+use Rattle.deck.specs.declared.Task.{Task}
+use Rattle.deck.specs.declared.Collision.the-variants.{Place, Move}
+use Rattle.deck.specs.declared.CollisionAnswer.{CollisionAnswer}
+use Rattle.deck.specs.declared.CollisionAnswer.the-variants.{Found, NoCollision, Refused}
+use Rattle.deck.specs.declared.CheckAnswer.{CheckAnswer}
+use Rattle.deck.specs.declared.CheckAnswer.the-variants.{Yes, No, Refused as CheckRefused}
+use Rattle.meaning.specs.Meaning.{_at_}
+use Rattle.meaning.proofs.LeastPath.{LeastMeant, least-path-meant}
+use Rattle.meaning.proofs.Accepted.{accepted, header-says, accepted-horizon, accepted-start}
+use Rattle.meaning.proofs.Assignments.{Least, least-assignment, entries-length, entries-at}
+use Rattle.prices.proofs.Growth.{lower}
+use Rattle.collision.specs.Meant.{Meant as CollisionMeant}
+use Rattle.collision.proofs.Words.{place-in}
+use Rattle.plan_check.specs.Meant.{PlanFor, Meant as CheckMeant}
+use Rattle.path.proofs.Calling.{NoCause, no-cause}
+use Rattle.assignment.proofs.Calls.{count-high}
+use Rattle.planner.specs.Small.{word, SmallPath, SmallAssignment, SmallFound, SmallCheck}
+
+-- a sum of numbers of at most b
+sum-most : (b : ℕ) (l : List ℕ) → ((i : ℕ) → i < length l → l at i ≤ b) → sum l ≤ length l * b
+sum-most b [] h = omega arith
+sum-most b (x ∷ l) h =
+    let r = sum-most b l (λ i k. h (suc i) (omega arith)) in
+    let f = h 0 (omega arith) in
+    omega (arith, suc-mul (length l) b)
+
+-- of at most twelve 16-bit numbers
+sum-small : (l : List ℕ) → length l ≤ 12 → ((i : ℕ) → i < length l → l at i ≤ 65535) → sum l < word
+sum-small l n h = omega (arith, sum-most 65535 l h, mul-le-mul-right 65535 n)
+
+-- ONE CARRIER'S LEAST PATH: its finish is at most the horizon
+module _ (s : List ℕ) (i : Carrier) (j : Task) (work out : ℕ) (rs : List ℕ) where
+  path-small-for : (c : ℕ) → c ≡ pathCause s i j work out rs → SmallPath (pathAnswerFor c (read s) i j rs)
+  unfolding pathAnswerFor pathFound
+  path-small-for zero e = go (leastPath (read s) i j (constraintsOf rs)) (least-path-meant (read s) i j (constraintsOf rs) start)
+    where
+      ok : NoCause s i j work out rs (sym e)
+      ok = no-cause s i j work out rs (sym e)
+
+      start : startOf (read s) i < area (read s)
+      start = accepted-start s (ok .accepted) (i .0) (ok .carrier-in)
+
+      go : (o : Option (List ℕ)) → LeastMeant (read s) i j (constraintsOf rs) o → SmallPath (pathFound (read s) j o)
+      go none l = tt
+      go (some p) l = omega (arith, l .under .path .finishes .rests .0, accepted-horizon s (ok .accepted))
+  path-small-for (suc c) e = tt
+
+  pub path-small : SmallPath (pathAnswerFor (pathCause s i j work out rs) (read s) i j rs)
+  path-small = path-small-for (pathCause s i j work out rs) refl
+
+-- THE LEAST ASSIGNMENT: a sum of at most twelve entries
+entry-small : (l : List ℕ) → ((k : ℕ) → l at k < 65536) → (k : ℕ) → getD l k barred ≤ 65535
+entry-small [] h k = omega arith
+entry-small (x ∷ l) h zero = omega (arith, h 0)
+entry-small (x ∷ l) h (suc k) = entry-small l (λ i. h (suc i)) k
+
+module _ (m : ℕ) (table : List ℕ) (words : (k : ℕ) → table at k < 65536) where
+  few : assignmentCause m table ≡ 0 → m ≤ 12
+  few e = ⊎-elim (λ h. absurd (omega (arith, count-high m table h))) (λ h. h) (lower 12 m)
+
+  sum-of-small : (a : List ℕ) → length a ≤ 12 → sumOf m table a < word
+  unfolding sumOf
+  sum-of-small a n =
+      sum-small (entries m table a) (omega (arith, entries-length m table a))
+      (λ i h.
+      let l : i < length a = omega (arith, entries-length m table a) in
+      omega (arith, entries-at m table a i l, entry-small table words (i * m + a at i)))
+
+  assignment-small-for : (c : ℕ) → c ≡ assignmentCause m table → SmallAssignment (assignmentKind c m table (leastFor c m table))
+  unfolding assignmentKind leastFor
+  assignment-small-for zero e = go (leastAssignment m table) (least-assignment m table)
+    where
+      go : (o : Option (List ℕ)) → Least m table o → SmallAssignment (assignmentKind zero m table o)
+      go none l = tt
+      go (some a) l = sum-of-small a (omega (arith, few (sym e), l .0 .0 .as-many))
+  assignment-small-for (suc c) e = tt
+
+  pub assignment-small : SmallAssignment (assignmentKind (assignmentCause m table) m table (leastFor (assignmentCause m table) m table))
+  assignment-small = assignment-small-for (assignmentCause m table) refl
+
+-- THE FIRST COLLISION: a time of at most h, carriers below m, and places that are words of the paths
+module _ (m h : ℕ) (ws : List ℕ) (words : (k : ℕ) → ws at k < 65536) (short : h < 256) (low : m < 256) where
+  place-small : (i t u : ℕ) → i < m → t ≤ h → getD (pieces m (suc h) ws) i [] at t ≡ u → u < word
+  place-small i t u a b e = omega (arith, e, place-in m (suc h) ws i t a (omega arith), words (i * suc h + t))
+
+  pub collision-small : (r : CollisionAnswer) → CollisionMeant m h ws r → SmallFound r
+  collision-small (Found (Place t i j u)) l =
+      let c = l .collided in
+      (omega (arith, c .2 .0), omega (arith, c .0, c .1), omega (arith, c .1), place-small (i .0) t u (omega (arith, c .0, c .1)) (c .2 .0) (c .2 .1))
+  collision-small (Found (Move t i j u v)) l =
+      let c = l .collided in (
+        omega (arith, c .2 .0),
+        omega (arith, c .0, c .1),
+        omega (arith, c .1),
+        place-small (i .0) t u (omega (arith, c .0, c .1)) (omega (arith, c .2 .0)) (c .2 .1),
+        place-small (i .0) (suc t) v (omega (arith, c .0, c .1)) (c .2 .0) (c .2 .2),
+      )
+  collision-small NoCollision l = tt
+  collision-small (Refused n) l = tt
+
+-- THE PLAN CHECK
+module _ (s tasks ws : List ℕ) where
+  flow-small : (f : ℕ) → PlanFor s tasks ws f → f < word
+  flow-small f p = omega (arith, p .flowtime, sum-small (p .finishes) few finish)
+    where
+      few : length (p .finishes) ≤ 12
+      few = omega (arith, p .plan .a-finish-each, header-says s .fact (accepted s (p .accepted) .header) .0 .0 .0 .0 .1 .1)
+
+      finish : (i : ℕ) → i < length (p .finishes) → p .finishes at i ≤ 65535
+      finish i h =
+          let l : i < countOf s = omega (arith, p .plan .a-finish-each) in
+          omega (arith, p .plan .paths i l .finishes .rests .0, accepted-horizon s (p .accepted))
+
+  pub check-small : (r : CheckAnswer) → CheckMeant s tasks ws r → SmallCheck r
+  check-small (Yes f) l = flow-small f (l f .0 refl)
+  check-small No l = tt
+  check-small (CheckRefused c) l = tt

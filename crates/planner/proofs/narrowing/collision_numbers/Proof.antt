@@ -1,0 +1,44 @@
+-- `planner::narrowing::collision_numbers` meets its contract: each case of the answer has the definition's numbers. Assumes nothing.
+use borrow.Author.Needs.{needs}
+use mathlib.Core.Path.{subst, sym, ap, _∙_}
+use Rattle.deck.specs.Numbers.{collisionNumbers}
+use Rattle.planner.specs.Small.{SmallFound}
+use Rattle.planner.proofs.narrowing.collision_numbers.Statement.{statement}
+use Rattle.planner.proofs.narrowing.collision_numbers.Tie as tie
+
+enum-known-a : tie.Need-enum-known-a
+enum-known-a c = search needs
+
+found-numbers-requires : tie.Need-found-numbers-requires
+found-numbers-requires c κs = subst SmallFound (c .before .a .given .1) (c .before .before .before .pre)
+
+enum-told : tie.Need-enum-told
+enum-told c = search needs
+
+enum-known-a-2 : tie.Need-enum-known-a-2
+enum-known-a-2 c = search needs
+
+wide-requires : tie.Need-wide-requires
+wide-requires c κs = search needs
+
+returns : tie.Need-returns
+returns c = c .found-numbers .ensures ∙ sym (ap collisionNumbers (c .before .before .a .given .1))
+
+returns-2 : tie.Need-returns-2
+returns-2 c = search needs
+
+returns-3 : tie.Need-returns-3
+returns-3 c = rw (c .before .before .a2 .given .1, c .wide .ensures)
+
+pub collision-numbers-spec : {M : Type 1} → statement M
+collision-numbers-spec =
+    tie.close
+    (tie.spec
+    enum-known-a
+    found-numbers-requires
+    enum-told
+    enum-known-a-2
+    wide-requires
+    returns
+    returns-2
+    returns-3)

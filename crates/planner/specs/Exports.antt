@@ -1,0 +1,34 @@
+-- What the exported calls leave in the words that are lent to them, by the definitions of the calls and of their numbers.
+-- Assumes nothing.
+use Prim.Native.Nat.{ℕ, zero, suc}
+use mathlib.Core.Path.{_≡_}
+use mathlib.Core.Logic.{_≢_}
+use mathlib.Core.List.{List, [], _∷_}
+use lib.ListN.{length}
+use lib.IntN.{ℤ}
+use Rattle.deck.specs.Sheet.{Sheet, Stretch, read}
+use Rattle.deck.specs.Calls.{workspaceFor, pathCause, pathAnswerFor, pathOutputFor, assignmentCause, leastFor, assignmentKind, assignmentTasks, PricesOf}
+use Rattle.deck.specs.Numbers.{pathNumbers, assignmentNumbers}
+use Rattle.deck.specs.declared.Carrier.{Carrier}
+use Rattle.deck.specs.declared.Task.{Task}
+
+-- the words of workspace that an accepted sheet asks for, by its cause; 0 for any other
+unfoldable pub workspaceWanted : ℕ → Sheet → ℕ
+workspaceWanted zero d = workspaceFor d
+workspaceWanted (suc c) d = 0
+
+abbrev pub stretchNumbers : Stretch → List ℕ
+stretchNumbers r = r .offset ∷ r .size ∷ []
+
+-- one carrier's least path: of the words lent, and as they stand afterwards
+pub record PathExport (s : List ℕ) (i : Carrier) (j : Task) (work out rs numbers work′ out′ : List ℕ) : Type 0 where
+  pub numbered : numbers ≡ pathNumbers (pathAnswerFor (pathCause s i j (length work) (length out) rs) (read s) i j rs)
+  pub written : out′ ≡ pathOutputFor (pathCause s i j (length work) (length out) rs) (read s) i j rs out
+  -- used workspace is free after an accepted call
+  pub refused-work : pathCause s i j (length work) (length out) rs ≢ 0 → work′ ≡ work
+
+-- the least assignment: the lists and the numbers afterwards
+pub record AssignmentExport (m : ℕ) (table tasks : List ℕ) (rows columns : List ℤ) (numbers : List ℕ) : Type 0 where
+  pub numbered : numbers ≡ assignmentNumbers (assignmentKind (assignmentCause m table) m table (leastFor (assignmentCause m table) m table))
+  pub listed : tasks ≡ assignmentTasks (leastFor (assignmentCause m table) m table)
+  pub priced : PricesOf m table (leastFor (assignmentCause m table) m table) rows columns
