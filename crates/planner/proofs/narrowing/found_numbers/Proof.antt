@@ -1,6 +1,7 @@
 -- `planner::narrowing::found_numbers` meets its contract: each kind of collision has the definition's numbers. Assumes nothing.
 use borrow.Author.Needs.{needs}
 use mathlib.Core.Path.{subst}
+use native.Mathlib.Omega.{arith}
 use Rattle.planner.specs.Small.{SmallCollision}
 use Rattle.planner.proofs.narrowing.found_numbers.Statement.{statement}
 use Rattle.planner.proofs.narrowing.found_numbers.Tie as tie
@@ -9,34 +10,52 @@ enum-known-c : tie.Need-enum-known-c
 enum-known-c c = search needs
 
 narrow-requires : tie.Need-narrow-requires
-narrow-requires c κs = subst SmallCollision (c .before .c .given .1) (c .before .before .before .pre) .0
+narrow-requires c κs =
+    let q = subst SmallCollision (c .before .c .given .1) (c .before .before .before .pre) in
+    omega (arith, q .0, q .1, q .2, q .3)
 
 narrow-requires-2 : tie.Need-narrow-requires-2
-narrow-requires-2 c κs = subst SmallCollision (c .before .before .c .given .1) (c .before .before .before .before .pre) .1
+narrow-requires-2 c κs =
+    let q = subst SmallCollision (c .before .before .c .given .1) (c .before .before .before .before .pre) in
+    omega (arith, q .0, q .1, q .2, q .3)
 
 narrow-requires-3 : tie.Need-narrow-requires-3
-narrow-requires-3 c κs = subst SmallCollision (c .before .before .before .c .given .1) (c .before .before .before .before .before .pre) .2
+narrow-requires-3 c κs =
+    let q = subst SmallCollision (c .before .before .before .c .given .1) (c .before .before .before .before .before .pre) in
+    omega (arith, q .0, q .1, q .2, q .3)
 
 narrow-requires-4 : tie.Need-narrow-requires-4
-narrow-requires-4 c κs = subst SmallCollision (c .before .before .before .before .c .given .1) (c .before .before .before .before .before .before .pre) .3
+narrow-requires-4 c κs =
+    let q = subst SmallCollision (c .before .before .before .before .c .given .1) (c .before .before .before .before .before .before .pre) in
+    omega (arith, q .0, q .1, q .2, q .3)
 
 enum-known-c-2 : tie.Need-enum-known-c-2
 enum-known-c-2 c = search needs
 
 narrow-requires-5 : tie.Need-narrow-requires-5
-narrow-requires-5 c κs = subst SmallCollision (c .before .c2 .given .1) (c .before .before .before .pre) .0
+narrow-requires-5 c κs =
+    let q = subst SmallCollision (c .before .c2 .given .1) (c .before .before .before .pre) in
+    omega (arith, q .0, q .1, q .2, q .3, q .4)
 
 narrow-requires-6 : tie.Need-narrow-requires-6
-narrow-requires-6 c κs = subst SmallCollision (c .before .before .c2 .given .1) (c .before .before .before .before .pre) .1
+narrow-requires-6 c κs =
+    let q = subst SmallCollision (c .before .before .c2 .given .1) (c .before .before .before .before .pre) in
+    omega (arith, q .0, q .1, q .2, q .3, q .4)
 
 narrow-requires-7 : tie.Need-narrow-requires-7
-narrow-requires-7 c κs = subst SmallCollision (c .before .before .before .c2 .given .1) (c .before .before .before .before .before .pre) .2
+narrow-requires-7 c κs =
+    let q = subst SmallCollision (c .before .before .before .c2 .given .1) (c .before .before .before .before .before .pre) in
+    omega (arith, q .0, q .1, q .2, q .3, q .4)
 
 narrow-requires-8 : tie.Need-narrow-requires-8
-narrow-requires-8 c κs = subst SmallCollision (c .before .before .before .before .c2 .given .1) (c .before .before .before .before .before .before .pre) .3
+narrow-requires-8 c κs =
+    let q = subst SmallCollision (c .before .before .before .before .c2 .given .1) (c .before .before .before .before .before .before .pre) in
+    omega (arith, q .0, q .1, q .2, q .3, q .4)
 
 narrow-requires-9 : tie.Need-narrow-requires-9
-narrow-requires-9 c κs = subst SmallCollision (c .before .before .before .before .before .c2 .given .1) (c .before .before .before .before .before .before .before .pre) .4
+narrow-requires-9 c κs =
+    let q = subst SmallCollision (c .before .before .before .before .before .c2 .given .1) (c .before .before .before .before .before .before .before .pre) in
+    omega (arith, q .0, q .1, q .2, q .3, q .4)
 
 returns : tie.Need-returns
 returns c = rw (c .before .before .before .before .before .c .given .1, c .before .before .before .narrow .ensures, c .before .before .narrow2 .ensures, c .before .narrow3 .ensures, c .narrow4 .ensures)
