@@ -1,0 +1,136 @@
+//! What is timed.
+
+use std::hint::black_box;
+
+use compare::inputs::{records_against, table, Map};
+use deckref::assign;
+use deckref::gen::Rng;
+use deckref::path;
+use deckref::sheet::{read_sheet, Carrier, Task};
+
+use crate::Case;
+
+pub fn all() -> Vec<Case> {
+    let map =
+        |side, blocked, carriers, goals, horizon| Map { side, blocked, carriers, goals, horizon, limit: 16 };
+    let mut cases = vec![
+        paths("path 8x8 H 30 K 2", map(8, 0, 4, 2, 30), 0),
+        paths("path 20x20 30% blocked H 100 K 2", map(20, 30, 10, 2, 100), 0),
+        paths("path 32x32 H 255 K 8", map(32, 0, 12, 8, 255), 0),
+        paths("path 32x32 H 255 K 1", map(32, 0, 12, 1, 255), 0),
+        paths("path 32x32 10% blocked H 255 K 8, 50 records", map(32, 10, 12, 8, 255), 50),
+        paths("path 32x32 10% blocked H 255 K 8, 4096 records", map(32, 10, 12, 8, 255), 4096),
+        assignments("assignment 12x12, entries to 1000", 1000, 0),
+        assignments("assignment 12x12, entries to 3", 3, 0),
+        assignments("assignment 12x12, half barred", 300, 50),
+    ];
+    cases.extend(searches());
+    cases
+}
+
+/// Least paths of a random carrier and task on sheets of one map.
+fn paths(name: &str, map: Map, records: usize) -> Case {
+    struct Input {
+        sheet: Vec<u8>,
+        carrier: usize,
+        task: usize,
+        records: Vec<u16>,
+    }
+    let mut rng = Rng::new(11);
+    let mut inputs = Vec::new();
+    let (mut words, mut places) = (0, 0);
+    while inputs.len() < 12 {
+        let sheet = map.sheet(&mut rng);
+        let (carrier, task) = (rng.range(0, map.carriers - 1), rng.range(0, map.carriers - 1));
+        let records = records_against(&sheet, carrier, task, records, 5, &mut rng);
+        let read = read_sheet(&sheet).expect("an accepted sheet");
+        (words, places) = (read.workspace_words(), read.horizon + 1);
+        let (mut work, mut out) = (vec![0; words], vec![0; places]);
+        if compare::least_path(&sheet, carrier, task, &mut work, &mut out, &records)[1] == 1 {
+            inputs.push(Input { sheet, carrier, task, records });
+        }
+    }
+    let inputs = std::rc::Rc::new(inputs);
+    let same = inputs.clone();
+    let (mut work, mut out) = (vec![0; words], vec![0; places]);
+    let (mut other_work, mut other_out) = (work.clone(), out.clone());
+    Case {
+        name: name.to_string(),
+        inputs: inputs.len(),
+        ours: Box::new(move |k| {
+            let Input { sheet, carrier, task, records } = &inputs[k];
+            black_box(compare::least_path(sheet, *carrier, *task, &mut work, &mut out, records));
+        }),
+        theirs: Box::new(move |k| {
+            let Input { sheet, carrier, task, records } = &same[k];
+            let (carrier, task) = (Carrier(*carrier), Task(*task));
+            black_box(path::least_path(sheet, carrier, task, &mut other_work, &mut other_out, records));
+        }),
+    }
+}
+
+fn assignments(name: &str, most: usize, barred: usize) -> Case {
+    let mut rng = Rng::new(12);
+    let tables: Vec<Vec<u16>> = (0..40).map(|_| table(12, most, barred, &mut rng)).collect();
+    let same = tables.clone();
+    Case {
+        name: name.to_string(),
+        inputs: tables.len(),
+        ours: Box::new(move |k| {
+            black_box(compare::least_assignment(12, &tables[k]));
+        }),
+        theirs: Box::new(move |k| {
+            black_box(assign::least_assignment(12, &same[k]));
+        }),
+    }
+}
+
+#[cfg(not(feature = "search"))]
+fn searches() -> Vec<Case> {
+    Vec::new()
+}
+
+/// Whole searches: the other author's kinds of sheet, and the maps of the literature.
+#[cfg(feature = "search")]
+fn searches() -> Vec<Case> {
+    use compare::inputs::with_limit;
+    use deckref::gen;
+    let kinds = [("medium", 12), ("full", 8), ("max", 4)].into_iter().map(|(kind, count)| {
+        let sheets = (0..count).map(|seed| gen::sheet(kind, seed).expect("a known kind")).collect();
+        whole(&format!("search {kind}"), sheets)
+    });
+    let maps =
+        [("20x20 30% blocked", 20, 30, 100), ("32x32 10% blocked", 32, 10, 160), ("32x32", 32, 0, 160)];
+    let maps = maps.into_iter().flat_map(|(name, side, blocked, horizon)| {
+        let mut rng = Rng::new(13);
+        let sheets: Vec<Vec<u8>> = (0..8)
+            .map(|k| {
+                let carriers = 10 + k % 3;
+                Map { side, blocked, carriers, goals: 2, horizon, limit: 4096 }.sheet(&mut rng)
+            })
+            .collect();
+        [300, 4096].map(|limit| {
+            let sheets = sheets.iter().map(|sheet| with_limit(sheet, limit)).collect();
+            whole(&format!("search {name} K 2, limit {limit}"), sheets)
+        })
+    });
+    kinds.chain(maps).collect()
+}
+
+#[cfg(feature = "search")]
+fn whole(name: &str, sheets: Vec<Vec<u8>>) -> Case {
+    use compare::inputs::PLENTY;
+    let same = sheets.clone();
+    let (mut work, mut out) = (vec![0; PLENTY], vec![0; 12 * 256]);
+    let (mut other_work, mut other_out) = (work.clone(), out.clone());
+    Case {
+        name: name.to_string(),
+        inputs: sheets.len(),
+        ours: Box::new(move |k| {
+            black_box(compare::search(&sheets[k], &mut work, &mut out));
+        }),
+        theirs: Box::new(move |k| {
+            black_box(deckref::search::search(&same[k], &mut other_work, &mut other_out));
+        }),
+    }
+}

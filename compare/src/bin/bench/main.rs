@@ -1,0 +1,77 @@
+//! Times the exported calls beside another author's planner: same inputs, same run, both built for release. For each case the
+//! median time of a call of either, and the median, least and greatest of the ratios of the rounds. A ratio below 1 says that
+//! this planner is faster. Buffers are lent as the call before left them. Times are the thread's processor times, so that what
+//! else the machine does weighs less. An argument picks the cases whose name has it.
+
+mod cases;
+mod clock;
+
+use std::time::Duration;
+
+/// One call of each planner on the input of a number.
+pub struct Case {
+    pub name: String,
+    pub inputs: usize,
+    pub ours: Box<dyn FnMut(usize)>,
+    pub theirs: Box<dyn FnMut(usize)>,
+}
+
+const ROUNDS: usize = 21;
+
+/// How long one side of a round takes at least.
+const SIDE: Duration = Duration::from_millis(8);
+
+fn main() {
+    let wanted = std::env::args().nth(1).unwrap_or_default();
+    println!("{:<44} {:>10} {:>10}  {:>6}", "case", "ours µs", "other µs", "ratio");
+    for case in cases::all().into_iter().filter(|case| case.name.contains(&wanted)) {
+        report(case);
+    }
+}
+
+fn report(mut case: Case) {
+    let mut repeats = 1;
+    while side(&mut case.theirs, case.inputs, repeats) < SIDE {
+        repeats *= 2;
+    }
+    let mut rounds: Vec<(f64, f64)> = (0..ROUNDS)
+        .map(|round| {
+            // Either goes first in every other round.
+            if round % 2 == 0 {
+                let ours = side(&mut case.ours, case.inputs, repeats).as_secs_f64();
+                (ours, side(&mut case.theirs, case.inputs, repeats).as_secs_f64())
+            } else {
+                let theirs = side(&mut case.theirs, case.inputs, repeats).as_secs_f64();
+                (side(&mut case.ours, case.inputs, repeats).as_secs_f64(), theirs)
+            }
+        })
+        .collect();
+    let calls = (case.inputs * repeats) as f64;
+    let per_call = |times: Vec<f64>| median(times) / calls * 1e6;
+    let ours = per_call(rounds.iter().map(|round| round.0).collect());
+    let theirs = per_call(rounds.iter().map(|round| round.1).collect());
+    rounds.sort_by(|a, b| (a.0 / a.1).total_cmp(&(b.0 / b.1)));
+    let ratio = |round: &(f64, f64)| round.0 / round.1;
+    println!(
+        "{:<44} {ours:>10.2} {theirs:>10.2}  {:>6.3} ({:.3} to {:.3})",
+        case.name,
+        ratio(&rounds[ROUNDS / 2]),
+        ratio(&rounds[0]),
+        ratio(&rounds[ROUNDS - 1])
+    );
+}
+
+fn side(call: &mut dyn FnMut(usize), inputs: usize, repeats: usize) -> Duration {
+    let begun = clock::now();
+    for _ in 0..repeats {
+        for input in 0..inputs {
+            call(input);
+        }
+    }
+    clock::now() - begun
+}
+
+fn median(mut times: Vec<f64>) -> f64 {
+    times.sort_by(f64::total_cmp);
+    times[times.len() / 2]
+}

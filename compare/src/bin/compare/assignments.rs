@@ -1,0 +1,65 @@
+//! Least assignments: tables of every size, with many ties, barred entries and large ones; and the condition on prices.
+
+use compare::inputs::table;
+use compare::{least_assignment, Assignment};
+use deckref::assign::{self, AssignmentKind, BARRED};
+use deckref::gen::Rng;
+
+use crate::{kind_of, Share, Tally};
+
+pub fn run(share: &Share) -> Tally {
+    let mut tally = Tally::default();
+    for seed in share.seeds(30_000) {
+        let mut rng = Rng::new(seed);
+        let m = rng.range(1, 12);
+        let most = rng.pick(&[0, 1, 2, 3, 9, 40, 300, 65534]);
+        let barred = rng.pick(&[0, 0, 0, 10, 30, 50, 70, 90, 100]);
+        let mut entries = table(m, most, barred, &mut rng);
+        if rng.chance(1, 8) {
+            // Large entries beside small ones.
+            for entry in entries.iter_mut().filter(|entry| **entry != BARRED) {
+                *entry = if rng.chance(1, 2) { 65534 - *entry } else { *entry };
+            }
+        }
+        let count = if rng.chance(1, 20) { rng.pick(&[0, 13, 14, 255, m as u8 - 1]) } else { m as u8 };
+        if rng.chance(1, 20) {
+            let length = rng.pick(&[0, entries.len() - 1, entries.len() + 1]);
+            entries.resize(length, 0);
+        }
+        one(&mut tally, count, &entries, seed);
+    }
+    tally
+}
+
+fn one(tally: &mut Tally, m: u8, entries: &[u16], seed: u64) {
+    let ours = least_assignment(m, entries);
+    let theirs = assign::least_assignment(m, entries);
+    let numbers = match theirs.kind {
+        AssignmentKind::Found => [0, 1, theirs.sum],
+        AssignmentKind::None => [0, 0, 0],
+        AssignmentKind::Refused(cause) => [u32::from(cause.number()), 0, 0],
+    };
+    let ok = ours.numbers == numbers && ours.tasks == theirs.tasks && priced(usize::from(m), entries, &ours);
+    tally.count(ok, kind_of(&ours.numbers, "found", "none"), || {
+        format!("table {seed}, m {m}: {ours:?} for {theirs:?}")
+    });
+}
+
+/// Row plus column price is at most each unbarred entry and equals it on the chosen ones; 0 past m, and 0 throughout without an
+/// assignment.
+fn priced(m: usize, entries: &[u16], answer: &Assignment) -> bool {
+    let used = if answer.numbers[1] == 1 { m } else { 0 };
+    let zeros = answer.rows[used..].iter().chain(&answer.columns[used..]).all(|&price| price == 0);
+    let sum = |i: usize, j: usize| i64::from(answer.rows[i]) + i64::from(answer.columns[j]);
+    let feasible = (0..used).all(|i| {
+        (0..used).all(|j| {
+            let entry = entries[i * m + j];
+            entry == BARRED || sum(i, j) <= i64::from(entry)
+        })
+    });
+    let tight = (0..used).all(|i| {
+        let j = usize::from(answer.tasks[i]);
+        sum(i, j) == i64::from(entries[i * m + j])
+    });
+    zeros && feasible && tight
+}

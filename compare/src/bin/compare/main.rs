@@ -1,0 +1,105 @@
+//! Compares every exported call with another author's planner on generated inputs. Seeds are fixed. The last line is
+//! 'N passed, M failed', and the exit status is 0 only if M is 0.
+
+mod assignments;
+mod collisions;
+mod paths;
+mod plans;
+#[cfg(feature = "search")]
+mod searches;
+mod sheets;
+
+use std::collections::BTreeMap;
+use std::process::ExitCode;
+
+/// What one part found.
+#[derive(Default)]
+pub struct Tally {
+    passed: u64,
+    failed: u64,
+    /// How often each kind of answer came.
+    kinds: BTreeMap<String, u64>,
+    /// The first failures, in words.
+    seen: Vec<String>,
+}
+
+impl Tally {
+    /// One comparison, of an answer of this kind.
+    pub fn count(&mut self, ok: bool, kind: String, what: impl Fn() -> String) {
+        *self.kinds.entry(kind).or_default() += 1;
+        if ok {
+            self.passed += 1;
+            return;
+        }
+        self.failed += 1;
+        if self.seen.len() < 10 {
+            self.seen.push(what());
+        }
+    }
+}
+
+/// The kind of an answer whose first two numbers are the cause and 1 for a yes.
+pub fn kind_of(numbers: &[u32], yes: &str, no: &str) -> String {
+    match numbers {
+        [0, 1, ..] => yes.to_string(),
+        [0, ..] => no.to_string(),
+        [cause, ..] => format!("cause {cause}"),
+        [] => String::new(),
+    }
+}
+
+/// A part takes the share `number` of `of`: the seeds that leave that remainder.
+pub struct Share {
+    number: u64,
+    of: u64,
+}
+
+impl Share {
+    pub fn seeds(&self, count: u64) -> impl Iterator<Item = u64> + '_ {
+        (0..count).filter(|seed| seed % self.of == self.number)
+    }
+}
+
+type Part = (&'static str, fn(&Share) -> Tally);
+
+const PARTS: &[Part] = &[
+    ("sheets and task goals", sheets::run),
+    ("least paths", paths::run),
+    ("least assignments", assignments::run),
+    ("first collisions", collisions::run),
+    ("plan checks", plans::run),
+    #[cfg(feature = "search")]
+    ("searches", searches::run),
+];
+
+/// Each part's seeds are split over this many threads; what is compared does not depend on it.
+const THREADS: u64 = 2;
+
+fn main() -> ExitCode {
+    let (mut passed, mut failed) = (0, 0);
+    for (name, run) in PARTS {
+        let tallies: Vec<Tally> = std::thread::scope(|scope| {
+            let threads: Vec<_> =
+                (0..THREADS).map(|number| scope.spawn(move || run(&Share { number, of: THREADS }))).collect();
+            threads.into_iter().map(|thread| thread.join().expect("no part panics")).collect()
+        });
+        let (good, bad) = tallies.iter().fold((0, 0), |sum, one| (sum.0 + one.passed, sum.1 + one.failed));
+        for line in tallies.iter().flat_map(|tally| &tally.seen) {
+            println!("{name}: {line}");
+        }
+        let mut kinds = BTreeMap::new();
+        for (kind, count) in tallies.into_iter().flat_map(|tally| tally.kinds) {
+            *kinds.entry(kind).or_insert(0) += count;
+        }
+        let kinds: Vec<String> = kinds.iter().map(|(kind, count)| format!("{kind} {count}")).collect();
+        println!("{name} ({}): {good} passed, {bad} failed", kinds.join(", "));
+        passed += good;
+        failed += bad;
+    }
+    println!("{passed} passed, {failed} failed");
+    if failed == 0 {
+        ExitCode::SUCCESS
+    } else {
+        ExitCode::FAILURE
+    }
+}

@@ -1,0 +1,144 @@
+//! Whole searches: every kind of sheet, several node limits, a workspace that holds anything, buffers that are exact, larger and
+//! one word short; and on tiny sheets the least flowtime of any plan, by another method.
+
+use compare::inputs::{junk, with_limit, Map, PLENTY};
+use compare::search;
+use deckref::gen::{self, Rng};
+use deckref::naive;
+use deckref::search::{self as other, SearchKind};
+use deckref::sheet::read_sheet;
+
+use crate::{Share, Tally};
+
+/// Words after the lent ones, which no call may touch.
+const PAST: usize = 8;
+
+struct Lent {
+    work: Vec<u32>,
+    out: Vec<u16>,
+}
+
+/// Node limits that every sheet is searched under besides its own.
+const LIMITS: [u16; 6] = [1, 2, 3, 5, 17, 60];
+
+pub fn run(share: &Share) -> Tally {
+    let mut tally = Tally::default();
+    let mut rng = Rng::new(50 + share.number);
+    let mut lent = Lent { work: vec![0; PLENTY + PAST], out: Vec::new() };
+    junk(&mut lent.work, &mut rng);
+    for seed in share.seeds(400) {
+        for kind in gen::KINDS {
+            let most = match kind {
+                "max" => 3,
+                "full" => 8,
+                "medium" => 30,
+                _ => 400,
+            };
+            if seed >= most {
+                continue;
+            }
+            let bytes = gen::sheet(kind, seed).expect("a known kind");
+            let name = |limit: u16| format!("{kind} {seed}, limit {limit}");
+            let own = bytes.get(4..6).map_or(0, |two| u16::from_le_bytes([two[0], two[1]]));
+            one(&mut tally, &mut lent, &bytes, 0, 0, &|| name(own));
+            let limit = LIMITS[seed as usize % LIMITS.len()];
+            one(&mut tally, &mut lent, &with_limit(&bytes, limit), 5, 3, &|| name(limit));
+            short(&mut tally, &mut lent, &bytes, &|| name(own));
+            if kind == "tiny" {
+                least(&mut tally, &mut lent, &with_limit(&bytes, 4096), &|| name(4096));
+            }
+            if matches!(kind, "small" | "corridor" | "swap" | "crowd" | "ties") && seed < 30 {
+                one(&mut tally, &mut lent, &with_limit(&bytes, 4096), 1, 1, &|| name(4096));
+            }
+        }
+    }
+    for seed in share.seeds(6) {
+        for (side, blocked, horizon) in [(20, 30, 100), (32, 10, 160), (32, 0, 160)] {
+            let map = Map { side, blocked, carriers: 10, goals: 2, horizon, limit: 600 };
+            let bytes = map.sheet(&mut Rng::new(300 + seed));
+            one(&mut tally, &mut lent, &bytes, 0, 0, &|| format!("map {side} {blocked} {seed}"));
+        }
+    }
+    tally
+}
+
+/// The numbers of the other planner's answer.
+fn numbers_of(answer: &other::SearchAnswer) -> [u32; 17] {
+    let (cause, kind) = match answer.kind {
+        SearchKind::Plan => (0, 0),
+        SearchKind::None => (0, 1),
+        SearchKind::Spent => (0, 2),
+        SearchKind::Refused(cause) => (u32::from(cause.number()), 3),
+    };
+    let mut numbers =
+        [cause, kind, answer.flowtime, answer.nodes, answer.bound, 0, 0, 0, 0, 0, 0, 0, 0, 0, 0, 0, 0];
+    for (number, task) in numbers[5..].iter_mut().zip(answer.tasks) {
+        *number = u32::from(task);
+    }
+    numbers
+}
+
+/// Both with buffers that are `more` words longer than asked for.
+fn one(
+    tally: &mut Tally,
+    lent: &mut Lent,
+    bytes: &[u8],
+    more_work: usize,
+    more_out: usize,
+    name: &dyn Fn() -> String,
+) -> [u32; 17] {
+    let (words, places) = read_sheet(bytes)
+        .map_or((1000, 100), |sheet| (sheet.workspace_words(), sheet.m * (sheet.horizon + 1)));
+    call(tally, lent, bytes, (words + more_work).min(PLENTY), places + more_out, name)
+}
+
+/// One word short, of the workspace, of the output, and of both.
+fn short(tally: &mut Tally, lent: &mut Lent, bytes: &[u8], name: &dyn Fn() -> String) {
+    let Ok(sheet) = read_sheet(bytes) else { return };
+    let (words, places) = (sheet.workspace_words(), sheet.m * (sheet.horizon + 1));
+    for (words, places) in [(words - 1, places), (words, places - 1), (words - 1, places - 1)] {
+        call(tally, lent, bytes, words, places, name);
+    }
+}
+
+fn call(
+    tally: &mut Tally,
+    lent: &mut Lent,
+    bytes: &[u8],
+    words: usize,
+    places: usize,
+    name: &dyn Fn() -> String,
+) -> [u32; 17] {
+    let old = (words as u16) ^ 0x3c3c;
+    lent.out.clear();
+    lent.out.resize(places + PAST, old);
+    let mut expected = lent.out.clone();
+    let answer = other::search(bytes, &mut lent.work[..words], &mut expected[..places]);
+    let numbers = numbers_of(&answer);
+    let before = (numbers[0] != 0).then(|| lent.work[..words].to_vec());
+    let guard: [u32; PAST] = std::array::from_fn(|k| lent.work[words + k]);
+    let ours = search(bytes, &mut lent.work[..words], &mut lent.out[..places]);
+    let stays = before.is_none_or(|before| before[..] == lent.work[..words]);
+    let past = lent.work[words..words + PAST] == guard;
+    let ok = ours == numbers && lent.out == expected && stays && past;
+    let kinds = ["plan", "none", "spent"];
+    let kind =
+        kinds.get(ours[1] as usize).map_or_else(|| format!("cause {}", ours[0]), |kind| kind.to_string());
+    tally.count(ok, kind, || format!("{}, {words} and {places} words: {ours:?} for {numbers:?}", name()));
+    ours
+}
+
+/// A plan has the least flowtime that any plan has, by joint states; none has none; the bound of spent is below it.
+fn least(tally: &mut Tally, lent: &mut Lent, bytes: &[u8], name: &dyn Fn() -> String) {
+    let ours = one(tally, lent, bytes, 0, 0, name);
+    let plain = naive::read(bytes).expect("an accepted sheet");
+    let optimum = naive::optimum(&plain).map(|flowtime| flowtime as u32);
+    let ok = match ours[1] {
+        0 => optimum == Some(ours[2]),
+        1 => optimum.is_none(),
+        _ => optimum.is_none_or(|least| ours[4] <= least),
+    };
+    tally.count(ok, "least flowtime".to_string(), || {
+        format!("{}: {ours:?}, least flowtime {optimum:?}", name())
+    });
+}

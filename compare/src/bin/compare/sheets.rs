@@ -1,0 +1,51 @@
+//! Causes, workspaces and task goals: every kind of sheet, whole, damaged and cut off.
+
+use compare::{cause, task_goals, workspace};
+use deckref::gen::{self, Rng};
+use deckref::sheet::{self, read_sheet, Task};
+
+use crate::{Share, Tally};
+
+pub fn run(share: &Share) -> Tally {
+    let mut tally = Tally::default();
+    for seed in share.seeds(1500) {
+        for kind in gen::KINDS {
+            let large = matches!(kind, "medium" | "full" | "max");
+            if large && seed >= 300 {
+                continue;
+            }
+            let bytes = gen::sheet(kind, seed).expect("a known kind");
+            one(&mut tally, &bytes, || format!("{kind} {seed}"));
+            // Any byte of it changed, or the end cut off.
+            let mut rng = Rng::new(seed);
+            let mut other = bytes.clone();
+            let at = rng.range(0, other.len().min(60).max(1) - 1);
+            if let Some(byte) = other.get_mut(at) {
+                *byte = rng.word() as u8;
+            }
+            one(&mut tally, &other, || format!("{kind} {seed} with another byte {at}"));
+            let end = rng.range(0, bytes.len());
+            one(&mut tally, &bytes[..end], || format!("{kind} {seed} up to {end}"));
+        }
+    }
+    for seed in share.seeds(2000) {
+        let mut rng = Rng::new(seed);
+        let bytes: Vec<u8> = (0..rng.range(0, 80)).map(|_| rng.range(0, 40) as u8).collect();
+        one(&mut tally, &bytes, || format!("random bytes {seed}"));
+    }
+    tally
+}
+
+fn one(tally: &mut Tally, bytes: &[u8], name: impl Fn() -> String) {
+    let read = read_sheet(bytes);
+    let number = read.as_ref().map_or_else(|cause| u32::from(cause.number()), |_| 0);
+    let words = read.as_ref().map_or(0, |sheet| sheet.workspace_words());
+    let count = read.as_ref().map_or(1, |sheet| sheet.m);
+    let mut ok = cause(bytes) == number && workspace(bytes) == words;
+    for task in (0..=count).chain([255, 65536, usize::MAX]) {
+        let goals = sheet::task_goals(bytes, Task(task));
+        let offset = goals.as_ptr() as usize - bytes.as_ptr() as usize;
+        ok &= task_goals(bytes, task) == [offset, goals.len()];
+    }
+    tally.count(ok, format!("cause {number}"), || format!("{}: cause {} for {number}", name(), cause(bytes)));
+}

@@ -1,0 +1,156 @@
+//! Inputs that the comparison and the timing share: sheets by size, records, tables, words.
+
+use deckref::gen::{Draft, Rng};
+use deckref::sheet::{read_sheet, Carrier, Sheet};
+
+/// The most words of workspace that any sheet asks for.
+pub const PLENTY: usize = 4_460_544;
+
+/// How the sheets of a map are drawn.
+pub struct Map {
+    pub side: usize,
+    /// Blocked places per hundred.
+    pub blocked: usize,
+    pub carriers: usize,
+    pub goals: usize,
+    pub horizon: usize,
+    pub limit: usize,
+}
+
+impl Map {
+    /// A sheet on which the free places are all connected: blocked places are drawn, and what cannot be reached is blocked too.
+    pub fn sheet(&self, rng: &mut Rng) -> Vec<u8> {
+        loop {
+            let area = self.side * self.side;
+            let mut grid: Vec<u8> = (0..area).map(|_| u8::from(rng.chance(self.blocked, 100))).collect();
+            let free = self.keep_connected(&mut grid, rng);
+            if free.len() < 2 * area * (100 - self.blocked) / 300 {
+                continue;
+            }
+            let starts = rng.sample(&free, self.carriers);
+            let tasks = rng
+                .sample(&free, self.carriers)
+                .into_iter()
+                .map(|last| (1..self.goals).map(|_| rng.pick(&free)).chain([last]).collect())
+                .collect();
+            let draft = Draft {
+                w: self.side,
+                h: self.side,
+                horizon: self.horizon,
+                limit: self.limit,
+                grid,
+                starts,
+                tasks,
+            };
+            return draft.bytes();
+        }
+    }
+
+    fn keep_connected(&self, grid: &mut [u8], rng: &mut Rng) -> Vec<usize> {
+        let open: Vec<usize> = (0..grid.len()).filter(|&place| grid[place] == 0).collect();
+        let mut reached = vec![false; grid.len()];
+        let mut queue = vec![rng.pick(&open)];
+        reached[queue[0]] = true;
+        let mut head = 0;
+        while head < queue.len() {
+            let (x, y) = (queue[head] % self.side, queue[head] / self.side);
+            head += 1;
+            let near = [(x.wrapping_sub(1), y), (x + 1, y), (x, y.wrapping_sub(1)), (x, y + 1)];
+            for (x, y) in near.into_iter().filter(|&(x, y)| x < self.side && y < self.side) {
+                let place = y * self.side + x;
+                if grid[place] == 0 && !reached[place] {
+                    reached[place] = true;
+                    queue.push(place);
+                }
+            }
+        }
+        for place in 0..grid.len() {
+            grid[place] = u8::from(!reached[place]);
+        }
+        queue.sort_unstable();
+        queue
+    }
+}
+
+/// A sheet with another node limit.
+pub fn with_limit(sheet: &[u8], limit: u16) -> Vec<u8> {
+    let mut bytes = sheet.to_vec();
+    if let Some(two) = bytes.get_mut(4..6) {
+        two.copy_from_slice(&limit.to_le_bytes());
+    }
+    bytes
+}
+
+/// A walk of random steps from a carrier's start.
+pub fn walk(sheet: &Sheet, carrier: Carrier, rng: &mut Rng) -> Vec<u16> {
+    let mut place = sheet.start(carrier);
+    let mut list = vec![place as u16];
+    for _ in 0..sheet.horizon {
+        let next: Vec<usize> = sheet.steps(place).collect();
+        place = rng.pick(&next);
+        list.push(place as u16);
+    }
+    list
+}
+
+/// A record that the sheet's calls accept. Where a path is given, the record mostly bars a place or a step of it.
+pub fn record(sheet: &Sheet, carrier: usize, along: Option<&[u16]>, rng: &mut Rng) -> [u16; 5] {
+    let who = carrier as u16;
+    let on_path = along.filter(|_| rng.chance(3, 4));
+    let place = |rng: &mut Rng| rng.range(0, sheet.area() - 1) as u16;
+    if sheet.horizon == 0 || rng.chance(1, 2) {
+        let t = rng.range(0, sheet.horizon);
+        let u = on_path.map_or_else(|| place(rng), |path| path[t]);
+        return [0, who, u, 0, t as u16];
+    }
+    let t = rng.range(0, sheet.horizon - 1);
+    match on_path {
+        Some(path) => [1, who, path[t], path[t + 1], t as u16],
+        None => {
+            let u = place(rng);
+            let near: Vec<usize> = sheet.steps(usize::from(u)).collect();
+            let v = if near.is_empty() || rng.chance(1, 8) { place(rng) } else { rng.pick(&near) as u16 };
+            [1, who, u, v, t as u16]
+        }
+    }
+}
+
+/// `count` records of one carrier, each against the path that is least under those before it as often as `follow` says.
+pub fn records_against(
+    bytes: &[u8],
+    carrier: usize,
+    task: usize,
+    count: usize,
+    follow: usize,
+    rng: &mut Rng,
+) -> Vec<u16> {
+    let sheet = read_sheet(bytes).expect("an accepted sheet");
+    let mut work = vec![0; sheet.workspace_words()];
+    let mut path = vec![0; sheet.horizon + 1];
+    let mut records: Vec<u16> = Vec::new();
+    for k in 0..count {
+        if k % follow.max(1) == 0 {
+            crate::least_path(bytes, carrier, task, &mut work, &mut path, &records);
+        }
+        // The start at time 0 and the last goal at the last time stay open, so that there mostly is a path.
+        let fresh = record(&sheet, carrier, Some(&path), rng);
+        if fresh[4] > 0 && usize::from(fresh[4]) < sheet.horizon * 3 / 4 {
+            records.extend(fresh);
+        } else {
+            records.extend([0, carrier as u16, rng.range(0, sheet.area() - 1) as u16, 0, 1 + (k % 7) as u16]);
+        }
+    }
+    records
+}
+
+/// A table of m by m entries.
+pub fn table(m: usize, most: usize, barred: usize, rng: &mut Rng) -> Vec<u16> {
+    (0..m * m).map(|_| if rng.chance(barred, 100) { 65535 } else { rng.range(0, most) as u16 }).collect()
+}
+
+/// Words that mean nothing.
+pub fn junk(words: &mut [u32], rng: &mut Rng) {
+    for word in words {
+        *word = rng.word() as u32;
+    }
+}
