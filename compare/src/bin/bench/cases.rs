@@ -10,26 +10,33 @@ use deckref::sheet::{read_sheet, Carrier, Task};
 
 use crate::Case;
 
-pub fn all() -> Vec<Case> {
+/// A case by name, made only where it is wanted.
+pub type Named = (String, Box<dyn FnOnce() -> Case>);
+
+pub fn all() -> Vec<Named> {
     let map =
         |side, blocked, carriers, goals, horizon| Map { side, blocked, carriers, goals, horizon, limit: 16 };
     let mut cases = vec![
-        paths("path 8x8 H 30 K 2", map(8, 0, 4, 2, 30), 0),
-        paths("path 20x20 30% blocked H 100 K 2", map(20, 30, 10, 2, 100), 0),
-        paths("path 32x32 H 255 K 8", map(32, 0, 12, 8, 255), 0),
-        paths("path 32x32 H 255 K 1", map(32, 0, 12, 1, 255), 0),
-        paths("path 32x32 10% blocked H 255 K 8, 50 records", map(32, 10, 12, 8, 255), 50),
-        paths("path 32x32 10% blocked H 255 K 8, 4096 records", map(32, 10, 12, 8, 255), 4096),
-        assignments("assignment 12x12, entries to 1000", 1000, 0),
-        assignments("assignment 12x12, entries to 3", 3, 0),
-        assignments("assignment 12x12, half barred", 300, 50),
+        named("path 8x8 H 30 K 2", move || paths(map(8, 0, 4, 2, 30), 0)),
+        named("path 20x20 30% blocked H 100 K 2", move || paths(map(20, 30, 10, 2, 100), 0)),
+        named("path 32x32 H 255 K 8", move || paths(map(32, 0, 12, 8, 255), 0)),
+        named("path 32x32 H 255 K 1", move || paths(map(32, 0, 12, 1, 255), 0)),
+        named("path 32x32 10% H 255 K 8, 50 records", move || paths(map(32, 10, 12, 8, 255), 50)),
+        named("path 32x32 10% H 255 K 8, 4096 records", move || paths(map(32, 10, 12, 8, 255), 4096)),
+        named("assignment 12x12, entries to 1000", || assignments(1000, 0)),
+        named("assignment 12x12, entries to 3", || assignments(3, 0)),
+        named("assignment 12x12, half barred", || assignments(300, 50)),
     ];
     cases.extend(searches());
     cases
 }
 
+fn named(name: &str, case: impl FnOnce() -> Case + 'static) -> Named {
+    (name.to_string(), Box::new(case))
+}
+
 /// Least paths of a random carrier and task on sheets of one map.
-fn paths(name: &str, map: Map, records: usize) -> Case {
+fn paths(map: Map, records: usize) -> Case {
     struct Input {
         sheet: Vec<u8>,
         carrier: usize,
@@ -55,7 +62,6 @@ fn paths(name: &str, map: Map, records: usize) -> Case {
     let (mut work, mut out) = (vec![0; words], vec![0; places]);
     let (mut other_work, mut other_out) = (work.clone(), out.clone());
     Case {
-        name: name.to_string(),
         inputs: inputs.len(),
         ours: Box::new(move |k| {
             let Input { sheet, carrier, task, records } = &inputs[k];
@@ -69,12 +75,11 @@ fn paths(name: &str, map: Map, records: usize) -> Case {
     }
 }
 
-fn assignments(name: &str, most: usize, barred: usize) -> Case {
+fn assignments(most: usize, barred: usize) -> Case {
     let mut rng = Rng::new(12);
     let tables: Vec<Vec<u16>> = (0..40).map(|_| table(12, most, barred, &mut rng)).collect();
     let same = tables.clone();
     Case {
-        name: name.to_string(),
         inputs: tables.len(),
         ours: Box::new(move |k| {
             black_box(compare::least_assignment(12, &tables[k]));
@@ -86,45 +91,39 @@ fn assignments(name: &str, most: usize, barred: usize) -> Case {
 }
 
 #[cfg(not(feature = "search"))]
-fn searches() -> Vec<Case> {
+fn searches() -> Vec<Named> {
     Vec::new()
 }
 
 /// Whole searches: the other author's kinds of sheet, and the maps of the literature.
 #[cfg(feature = "search")]
-fn searches() -> Vec<Case> {
-    use compare::inputs::with_limit;
+fn searches() -> Vec<Named> {
     use deckref::gen;
     let kinds = [("medium", 12), ("full", 8), ("max", 4)].into_iter().map(|(kind, count)| {
-        let sheets = (0..count).map(|seed| gen::sheet(kind, seed).expect("a known kind")).collect();
-        whole(&format!("search {kind}"), sheets)
+        let sheets = move || (0..count).map(|seed| gen::sheet(kind, seed).expect("a known kind")).collect();
+        named(&format!("search {kind}"), move || whole(sheets()))
     });
-    let maps =
-        [("20x20 30% blocked", 20, 30, 100), ("32x32 10% blocked", 32, 10, 160), ("32x32", 32, 0, 160)];
+    let maps = [("20x20 30%", 20, 30, 100), ("32x32 10%", 32, 10, 160), ("32x32", 32, 0, 160)];
     let maps = maps.into_iter().flat_map(|(name, side, blocked, horizon)| {
-        let mut rng = Rng::new(13);
-        let sheets: Vec<Vec<u8>> = (0..8)
-            .map(|k| {
-                let carriers = 10 + k % 3;
-                Map { side, blocked, carriers, goals: 2, horizon, limit: 4096 }.sheet(&mut rng)
-            })
-            .collect();
         [300, 4096].map(|limit| {
-            let sheets = sheets.iter().map(|sheet| with_limit(sheet, limit)).collect();
-            whole(&format!("search {name} K 2, limit {limit}"), sheets)
+            let sheets = move || {
+                let mut rng = Rng::new(13);
+                let map = |carriers| Map { side, blocked, carriers, goals: 2, horizon, limit };
+                (0..8).map(|k| map(10 + k % 3).sheet(&mut rng)).collect()
+            };
+            named(&format!("search {name} K 2, limit {limit}"), move || whole(sheets()))
         })
     });
     kinds.chain(maps).collect()
 }
 
 #[cfg(feature = "search")]
-fn whole(name: &str, sheets: Vec<Vec<u8>>) -> Case {
+fn whole(sheets: Vec<Vec<u8>>) -> Case {
     use compare::inputs::PLENTY;
     let same = sheets.clone();
     let (mut work, mut out) = (vec![0; PLENTY], vec![0; 12 * 256]);
     let (mut other_work, mut other_out) = (work.clone(), out.clone());
     Case {
-        name: name.to_string(),
         inputs: sheets.len(),
         ours: Box::new(move |k| {
             black_box(compare::search(&sheets[k], &mut work, &mut out));

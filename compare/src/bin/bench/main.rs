@@ -10,7 +10,6 @@ use std::time::Duration;
 
 /// One call of each planner on the input of a number.
 pub struct Case {
-    pub name: String,
     pub inputs: usize,
     pub ours: Box<dyn FnMut(usize)>,
     pub theirs: Box<dyn FnMut(usize)>,
@@ -23,13 +22,13 @@ const SIDE: Duration = Duration::from_millis(8);
 
 fn main() {
     let wanted = std::env::args().nth(1).unwrap_or_default();
-    println!("{:<44} {:>10} {:>10}  {:>6}", "case", "ours µs", "other µs", "ratio");
-    for case in cases::all().into_iter().filter(|case| case.name.contains(&wanted)) {
-        report(case);
+    println!("{:<40} {:>10} {:>10}  {:>6}", "case", "ours µs", "other µs", "ratio");
+    for (name, case) in cases::all().into_iter().filter(|(name, _)| name.contains(&wanted)) {
+        report(&name, case());
     }
 }
 
-fn report(mut case: Case) {
+fn report(name: &str, mut case: Case) {
     let mut repeats = 1;
     while side(&mut case.theirs, case.inputs, repeats) < SIDE {
         repeats *= 2;
@@ -53,8 +52,8 @@ fn report(mut case: Case) {
     rounds.sort_by(|a, b| (a.0 / a.1).total_cmp(&(b.0 / b.1)));
     let ratio = |round: &(f64, f64)| round.0 / round.1;
     println!(
-        "{:<44} {ours:>10.2} {theirs:>10.2}  {:>6.3} ({:.3} to {:.3})",
-        case.name,
+        "{:<40} {ours:>10.2} {theirs:>10.2}  {:>6.3} ({:.3} to {:.3})",
+        name,
         ratio(&rounds[ROUNDS / 2]),
         ratio(&rounds[0]),
         ratio(&rounds[ROUNDS - 1])
