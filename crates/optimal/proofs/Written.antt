@@ -15,7 +15,7 @@ use Rattle.optimal.specs.Demand.{RightCall}
 use Rattle.optimal.proofs.Demand3.{demand3}
 
 -- what stands behind m lists of k elements each is cut into these lists again
-pieces-flat : (k : ℕ) (ps : List (List ℕ)) (rest : List ℕ) → ((i : ℕ) → i < length ps → length (getD ps i []) ≡ k)
+pub pieces-flat : (k : ℕ) (ps : List (List ℕ)) (rest : List ℕ) → ((i : ℕ) → i < length ps → length (getD ps i []) ≡ k)
     → pieces (length ps) k (flat ps ++ rest) ≡ ps
 pieces-flat k [] rest h = refl
 pieces-flat k (p ∷ ps) rest h =

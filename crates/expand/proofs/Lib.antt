@@ -1,0 +1,4 @@
+pub mod MakingRoots
+pub mod MakingRoots2
+pub mod MakingChildren
+pub mod MakingChildren2
