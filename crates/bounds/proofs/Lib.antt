@@ -1,0 +1,4 @@
+pub mod Lowest
+pub mod Test
+pub mod Rows
+pub mod Levels
