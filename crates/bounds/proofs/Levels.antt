@@ -1,23 +1,182 @@
--- The table, filled label by label. Assumes nothing.
-use Prim.Native.Nat.{ℕ, zero, suc, _+_, _-_, _*_, _/_, _≤_, _<_, max, min}
+-- The bounds of a label in the table, out of a layer that passed the test; and the table, filled label by label. Assumes nothing.
+use Prim.Native.Nat.{ℕ, zero, suc, _+_, _-_, _*_, _≤_, _<_, max}
 use mathlib.Core.Path.{_≡_, refl, sym, ap, _∙_, subst}
 use mathlib.Core.Logic.{_⊎_, inl, inr, ⊎-elim}
-use mathlib.Core.Bool.{true, cond}
-use mathlib.Core.List.{List}
-use native.Mathlib.Nat.{mul-add, add-mul, mul-comm, mul-add-div-right, div-eq-of-lt, eq-or-lt-of-le}
+use mathlib.Core.Bool.{Bool, true, false, cond}
+use mathlib.Core.List.{List, [], _∷_, List·Memᴰ as Mem, List·Memᴰ·not-nil as not-nil, List·Memᴰ·cases-cons as cases-cons}
+use native.Mathlib.Nat.{eq-or-lt-of-le}
 use native.Mathlib.Omega.{arith}
 use lib.ListN.{length, getD}
 use lib.Dec.{T}
-use Rattle.deck.specs.Sheet.{Sheet, read, area, free, goalsOf, lastGoal, countOf, cause}
+use Rattle.deck.specs.Sheet.{Sheet, read, area, free, goalsOf, lastGoal}
 use Rattle.deck.specs.declared.Task.{Task}
-use Rattle.meaning.specs.Meaning.{Free, Beside}
-use Rattle.meaning.proofs.Tests.{Says, is-true}
+use Rattle.meaning.specs.Meaning.{Free, Step, Beside}
+use Rattle.meaning.proofs.Tests.{Says}
 use Rattle.meaning.proofs.Paths.{free-meant}
+use Rattle.sheet.proofs.Accepted.{width-range, height-range, area-range, goals-range, goal-on-grid, last-of}
+use Rattle.kernel.specs.Near.{consIf, hasAbove, hasLeft, hasRight, hasBelow, near}
 use Rattle.kernel.specs.Parts.{stepFree}
+use Rattle.kernel.proofs.Near.{wide-of, beside-turned, beside-near, cases-if}
 use Rattle.kernel.proofs.OfSheet.{step-free-meant}
 use Rattle.bars.specs.Padded.{padOf, MaskOf}
+use Rattle.bars.proofs.Grid.{pad-least, pad-most, pad-above, pad-left, pad-right, pad-below, size-of, size-small}
 use Rattle.layers.specs.Fill.{Filled}
+use Rattle.layers.specs.Raise.{GoalsAt}
+use Rattle.passes.specs.Ready.{Goals}
 use Rattle.bounds.specs.Graded.{mostAround, Even, Layer, Given, Graded}
 
-x : ℕ
-x = 0
+-- a step leads to a place around
+module _ (d : Sheet) (mask x : List ℕ) (masked : MaskOf d mask) (even : Even x mask (d .width + 2) ((d .width + 2) * (d .height + 1))) (v : ℕ) (on : v < area d) where
+  -- the number of u, on the padded grid
+  abbrev num : ℕ → ℕ
+  num u = getD x (padOf (d .width) u) 0
+
+  under : T (free d v) → mostAround x (d .width + 2) (padOf (d .width) v) ≤ suc (num v)
+  under f = even (padOf (d .width) v) (pad-least d v on) (pad-most d v on) (rw (masked .inside v on) (go (free d v) f))
+    where
+      go : (b : Bool) → T b → 0 < cond b 255 0
+      go true t = omega arith
+      go false t = absurd t
+
+  pub around : T (free d v) → (u : ℕ) → Mem u (near d v) → num u ≤ suc (num v)
+  around f u m =
+      ⊎-elim (λ e. rw (e .1, pad-above d v on (e .0)) (omega (arith, under f)))
+      (λ n. ⊎-elim (λ e. rw (e .1, pad-left d v on (e .0)) (omega (arith, under f)))
+      (λ n. ⊎-elim (λ e. rw e (omega (arith, under f)))
+      (λ n. ⊎-elim (λ e. rw (e .1, pad-right d v on (e .0)) (omega (arith, under f)))
+      (λ n. ⊎-elim (λ e. rw (e .1, pad-below (d .width) v (wide-of (d .width) (d .height) v on)) (omega (arith, under f))) (λ n. absurd (not-nil n))
+      (cases-if (hasBelow d v) (v + d .width) [] n))
+      (cases-if (hasRight d v) (v + 1) (consIf (hasBelow d v) (v + d .width) []) n))
+      (cases-cons n))
+      (cases-if (hasLeft d v) (v - 1) (v ∷ consIf (hasRight d v) (v + 1) (consIf (hasBelow d v) (v + d .width) [])) n))
+      (cases-if (hasAbove d v) (v - d .width) (consIf (hasLeft d v) (v - 1) (v ∷ consIf (hasRight d v) (v + 1) (consIf (hasBelow d v) (v + d .width) []))) m)
+
+pub layer-step : (d : Sheet) (mask x : List ℕ) → MaskOf d mask → Even x mask (d .width + 2) ((d .width + 2) * (d .height + 1)) → (u v : ℕ) → T (stepFree d u v)
+    → getD x (padOf (d .width) u) 0 ≤ suc (getD x (padOf (d .width) v) 0)
+layer-step d mask x m e u v h = go (r .1 .1)
+  where
+    r : Free d u × (Free d v × Step d u v)
+    r = step-free-meant d u v .fact h
+
+    go : Step d u v → getD x (padOf (d .width) u) 0 ≤ suc (getD x (padOf (d .width) v) 0)
+    go (inl i) = rw i (omega arith)
+    go (inr b) =
+        around d mask x m e v (r .1 .0 .on-grid) (free-meant d v .test (r .1 .0)) u
+        (beside-near d v u (r .1 .0 .on-grid) (r .0 .on-grid) (beside-turned d u v (b .1)))
+
+-- the bounds of a label stand in the table from `at` on, at most `base` on the goal g; what lies after them is as it was
+pub record Level (d : Sheet) (at g base : ℕ) (before after : List ℕ) : Type 0 where
+  pub size : length after ≡ length before
+  pub steps : (u v : ℕ) → T (stepFree d u v) → getD after (at + u) 0 ≤ suc (getD after (at + v) 0)
+  pub goal : getD after (at + g) 0 ≤ base
+  pub beyond : (p : ℕ) → at + area d ≤ p → getD after p 0 ≡ getD before p 0
+
+module _ (d : Sheet) (mask x : List ℕ) (at : ℕ) (before after : List ℕ) (f : Filled at (at + d .width * d .height) (λ p. getD x (padOf (d .width) (p - at)) 0) before after) where
+  copied : (u : ℕ) → u < area d → getD after (at + u) 0 ≡ getD x (padOf (d .width) u) 0
+  copied u h =
+      let e : at + u - at ≡ u = omega arith in
+      f .inside (at + u) (omega arith) (omega arith) ∙ ap (λ (k : ℕ). getD x (padOf (d .width) k) 0) e
+
+  level-at : MaskOf d mask → (goal base g : ℕ) → Layer mask (d .width) (d .height) goal base x → goal ≡ padOf (d .width) g → g < area d → Level d at g base before after
+  level-at m goal base g l e h = record {
+    size = f .size;
+    steps = λ u v s.
+        let r = step-free-meant d u v .fact s in
+        omega (arith, copied u (r .0 .on-grid), copied v (r .1 .0 .on-grid), layer-step d mask x m (l .even) u v s);
+    goal = let k : getD x (padOf (d .width) g) 0 ≤ base = subst (λ (p : ℕ). getD x p 0 ≤ base) e (l .ends) in omega (arith, copied g h);
+    beyond = λ p a. f .above p a;
+  }
+
+-- the same in the numbers of the code
+pub level-made : (d : Sheet) (mask x : List ℕ) {w h : ℕ} → w ≡ d .width → h ≡ d .height → (at : ℕ) (before after : List ℕ)
+    → Filled at (at + w * h) (λ p. getD x (padOf w (p - at)) 0) before after → MaskOf d mask → (goal base g : ℕ) → Layer mask w h goal base x → goal ≡ padOf (d .width) g
+    → g < area d → Level d at g base before after
+level-made d mask x {w} {h} ew eh at before after f m goal base g l e o =
+    level-at d mask x at before after
+    (subst (λ (b : ℕ). Filled at (at + d .width * b) (λ p. getD x (padOf (d .width) (p - at)) 0) before after) eh
+    (subst (λ (a : ℕ). Filled at (at + a * h) (λ p. getD x (padOf a (p - at)) 0) before after) ew f)) m goal base g
+    (subst (λ (b : ℕ). Layer mask (d .width) b goal base x) eh (subst (λ (a : ℕ). Layer mask a h goal base x) ew l)) e o
+
+module _ (d : Sheet) (j : Task) (small : area d ≤ 1024) where
+  abbrev gs : List ℕ
+  gs = goalsOf d j
+
+  -- all goals visited
+  pub graded-last : (before after : List ℕ) → length before ≡ 9216 → Level d (1024 * length gs) (lastGoal d j) 0 before after → Graded d j (length gs) after
+  graded-last before after z l = record {
+    size = l .size ∙ z;
+    smooth = λ m u v a b s. let e : length gs ≡ m = omega arith in subst (λ (k : ℕ). getD after (1024 * k + u) 0 ≤ suc (getD after (1024 * k + v) 0)) e (l .steps u v s);
+    enters = λ m a b. absurd (omega arith);
+    ends = omega (arith, l .goal);
+  }
+
+  -- one goal more to visit
+  pub graded-more : (k : ℕ) → k < length gs → (base : ℕ) (before after : List ℕ) → Graded d j (suc k) before → Level d (1024 * k) (getD gs k 0) base before after
+      → base ≤ getD before (1024 * suc k + getD gs k 0) 0 → Graded d j k after
+  graded-more k h base before after g l b = record {
+    size = l .size ∙ g .size;
+    smooth = λ m u v a c s. smooth m u v s c (eq-or-lt-of-le a);
+    enters = λ m a c. enters m c (eq-or-lt-of-le a);
+    ends = l .beyond (1024 * length gs + lastGoal d j) (omega arith) ∙ g .ends;
+  }
+    where
+      smooth : (m u v : ℕ) → T (stepFree d u v) → m ≤ length gs → (k ≡ m) ⊎ (k < m) → getD after (1024 * m + u) 0 ≤ suc (getD after (1024 * m + v) 0)
+      smooth m u v s c (inl e) = subst (λ (n : ℕ). getD after (1024 * n + u) 0 ≤ suc (getD after (1024 * n + v) 0)) e (l .steps u v s)
+      smooth m u v s c (inr i) = omega (arith, l .beyond (1024 * m + u) (omega arith), l .beyond (1024 * m + v) (omega arith), g .smooth m u v i c s)
+
+      enters : (m : ℕ) → m < length gs → (k ≡ m) ⊎ (k < m) → getD after (1024 * m + getD gs m 0) 0 ≤ getD after (1024 * suc m + getD gs m 0) 0
+      enters m c (inl e) = subst (λ (n : ℕ). getD after (1024 * n + getD gs n 0) 0 ≤ getD after (1024 * suc n + getD gs n 0) 0) e
+          (omega (arith, l .goal, l .beyond (1024 * suc k + getD gs k 0) (omega arith)))
+      enters m c (inr i) = omega (arith, l .beyond (1024 * m + getD gs m 0) (omega arith), l .beyond (1024 * suc m + getD gs m 0) (omega arith), g .enters m i c)
+
+module _ (s : List ℕ) (j : Task) (mask : List ℕ) (g : Given s j mask) where
+  abbrev d : Sheet
+  d = read s
+
+  abbrev K : ℕ
+  K = length (goalsOf d j)
+
+  pub few : (1 ≤ K) × (K ≤ 8)
+  few = goals-range s (g .accepted) (j .0) (g .task-in)
+
+  -- what the code asks
+  module _ {w h : ℕ} (ew : w ≡ d .width) (eh : h ≡ d .height) where
+    pub sides : (1 ≤ w) × (w ≤ 32) × (1 ≤ h) × (h ≤ 32)
+    sides = rw (ew, eh) (width-range s (g .accepted) .0, width-range s (g .accepted) .1, height-range s (g .accepted) .0, height-range s (g .accepted) .1)
+
+    pub room : (k n : ℕ) → k ≤ 8 → n ≡ 9216 → 1024 * k + w * h ≤ n
+    room k n l e = omega (arith, size-small w h (sides .1) (sides .3))
+
+    module _ (goals : List ℕ) (G : Goals s j goals) where
+      pub goal-small : (k : ℕ) → k < K → getD goals k 0 < 1156
+      goal-small k l =
+          let v : ℕ = getD (goalsOf d j) k 0 in
+          let o = goal-on-grid s (g .accepted) j k in
+          omega (arith, G .at k l, pad-most d v o, size-of (d .width) (d .height), size-small (d .width) (d .height) (width-range s (g .accepted) .1) (height-range s (g .accepted) .1), width-range s (g .accepted) .1, height-range s (g .accepted) .1)
+
+      -- the level of the label k
+      level-of : (k at base : ℕ) (x before after : List ℕ) → k < K → Layer mask w h (getD goals k 0) base x
+          → Filled at (at + w * h) (λ p. getD x (padOf w (p - at)) 0) before after → Level d at (getD (goalsOf d j) k 0) base before after
+      level-of k at base x before after l y f =
+          level-made d mask x ew eh at before after f (g .masked) (getD goals k 0) base (getD (goalsOf d j) k 0) y (G .at k l) (goal-on-grid s (g .accepted) j k)
+
+      pub one-level : (k base : ℕ) (x before after : List ℕ) → k < K → Graded d j (suc k) before → base ≡ getD before (1024 * (k + 1) + getD (goalsOf d j) k 0) 0
+          → Layer mask w h (getD goals k 0) base x → Filled (1024 * k) (1024 * k + w * h) (λ p. getD x (padOf w (p - 1024 * k)) 0) before after → Graded d j k after
+      one-level k base x before after l r e y f =
+          let i : 1024 * (k + 1) + getD (goalsOf d j) k 0 ≡ 1024 * suc k + getD (goalsOf d j) k 0 = omega arith in
+          graded-more d j (area-range s (g .accepted) .1) k l base before after r (level-of k (1024 * k) base x before after l y f)
+          (omega (arith, e, ap (λ (z : ℕ). getD before z 0) i))
+
+      pub two-levels : (n : ℕ) → n ≡ K → (x first before after : List ℕ) → length first ≡ 9216 → Layer mask w h (getD goals (n - 1) 0) 0 x
+          → Filled (1024 * n) (1024 * n + w * h) (λ p. getD x (padOf w (p - 1024 * n)) 0) first before
+          → Filled (1024 * (n - 1)) (1024 * (n - 1) + w * h) (λ p. getD x (padOf w (p - 1024 * (n - 1))) 0) before after → Graded d j (n - 1) after
+      two-levels n e x first before after z y f1 f2 =
+          let l : n - 1 < K = omega (arith, few) in
+          let q : suc (n - 1) ≡ K = omega (arith, few) in
+          let last : getD (goalsOf d j) (n - 1) 0 ≡ lastGoal d j = ap (λ (k : ℕ). getD (goalsOf d j) (k - 1) 0) e ∙ sym (last-of (goalsOf d j)) in
+          let top = level-of (n - 1) (1024 * n) 0 x first before l y f1 in
+          let all : Graded d j K before =
+          graded-last d j (area-range s (g .accepted) .1) first before z
+          (subst (λ (v : ℕ). Level d (1024 * K) v 0 first before) last (subst (λ (k : ℕ). Level d (1024 * k) (getD (goalsOf d j) (n - 1) 0) 0 first before) e top)) in
+          graded-more d j (area-range s (g .accepted) .1) (n - 1) l 0 before after (subst (λ (k : ℕ). Graded d j k before) (sym q) all)
+          (level-of (n - 1) (1024 * (n - 1)) 0 x before after l y f2) (omega arith)

@@ -163,7 +163,7 @@ fn last_two(s: &[u8], j: Task, mask: &[u8; 1156], goals: &[usize; 8], n: usize, 
 }
 
 // The bounds with k goals visited: the steps to goal k, and the bound there with k + 1 visited.
-fn before(s: &[u8], j: Task, mask: &[u8; 1156], goals: &[usize; 8], k: usize, table: &mut [u8])
+fn level(s: &[u8], j: Task, mask: &[u8; 1156], goals: &[usize; 8], k: usize, table: &mut [u8])
     requires { ⌜ Given (now s) j (now mask) × Goals (now s) j (now goals) × (k < length (goalsOf (read (now s)) j)) × Graded (read (now s)) j (suc k) (now table) ⌝ }
     ensures { λ _. ⌜ Graded (read (now (s .entry))) j k (now (table .exit)) ⌝ }
 {
@@ -185,6 +185,6 @@ pub fn bounds(s: &[u8], j: Task, mask: &[u8; 1156], table: &mut [u8])
     let mut k = n - 1;
     while 0 < k {
         k = k - 1;
-        before(s, j, mask, &goals, k, table);
+        level(s, j, mask, &goals, k, table);
     }
 }

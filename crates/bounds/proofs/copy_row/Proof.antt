@@ -8,8 +8,6 @@ use Rattle.layers.specs.Fill.{Filled}
 use Rattle.layers.proofs.Fills.{filled-none, filled-more, filled-all}
 use Rattle.bounds.proofs.copy_row.Statement.{statement}
 use Rattle.bounds.proofs.copy_row.Tie as tie
-use Rattle.bounds.proofs.copy_row.Reads as reads
-use Rattle.bounds.proofs.copy_row.Lts as lts
 
 abbrev Inv-loop : tie.InvT-loop
 Inv-loop layer from at w table₀ x₀ table x = (x ≤ w) × Filled at (at + x) (λ p. getD layer (from + (p - at)) 0) table₀ table

@@ -1,13 +1,8 @@
 -- `bounds::distances` meets its contract: the queue holds at most 1024 places, so the search ends. Assumes nothing.
 use borrow.Author.Needs.{needs}
-use native.Mathlib.Omega.{arith}
 use Prim.Native.Nat.{_-_, _≤_}
 use Rattle.bounds.proofs.distances.Statement.{statement}
 use Rattle.bounds.proofs.distances.Tie as tie
-use Rattle.bounds.proofs.distances.Reads as reads
-use Rattle.bounds.proofs.distances.Lts as lts
-use Rattle.bounds.proofs.visit.Reads as visit-reads
-use Rattle.bounds.proofs.wide16.Reads as wide16-reads
 
 abbrev Inv-loop : tie.InvT-loop
 Inv-loop mask wide goal base dist₀ queue₀ head₀ tail₀ dist queue head tail = tail ≤ 1024

@@ -7,11 +7,6 @@ use borrow.Author.Tests.{eqb-true}
 use Rattle.bounds.proofs.Test.{Below, overAt, below-none, below-more, even-of}
 use Rattle.bounds.proofs.even.Statement.{statement}
 use Rattle.bounds.proofs.even.Tie as tie
-use Rattle.bounds.proofs.even.Reads as reads
-use Rattle.bounds.proofs.even.Lts as lts
-use Rattle.bounds.proofs.excess.Reads as excess-reads
-use Rattle.bounds.proofs.larger.Reads as larger-reads
-use Rattle.bounds.proofs.smaller.Reads as smaller-reads
 
 abbrev Inv-loop : tie.InvT-loop
 Inv-loop dist mask wide end worst₀ p₀ worst p = (wide ≤ p) × (p ≤ end) × Below (overAt dist mask wide) wide p worst

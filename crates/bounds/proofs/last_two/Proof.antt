@@ -1,63 +1,50 @@
+-- `bounds::last_two` meets its contract: the last two labels have one layer. Assumes nothing.
 use borrow.Author.Needs.{needs}
+use native.Mathlib.Omega.{arith}
+use Rattle.bounds.proofs.Levels.{few, sides, room, goal-small, two-levels}
+use mathlib.Core.Path.{_∙_}
+use Prim.Native.Nat.{_-_}
 use Rattle.bounds.proofs.last_two.Statement.{statement}
 use Rattle.bounds.proofs.last_two.Tie as tie
-use Rattle.bounds.proofs.last_two.Reads as reads
-use Rattle.bounds.proofs.last_two.Lts as lts
-use Rattle.bounds.proofs.layer.Reads as layer-reads
-use Rattle.bounds.proofs.store.Reads as store-reads
-use Rattle.sheet.proofs.byte_at.Reads as byte-at-reads
 
--- src/lib.rt:158:9
 byte-at-requires : tie.Need-byte-at-requires
 byte-at-requires c κs = search needs
 
--- src/lib.rt:159:9
 byte-at-requires-2 : tie.Need-byte-at-requires-2
 byte-at-requires-2 c κs = search needs
 
--- src/lib.rt:160:40
 sub-layer : tie.Need-sub-layer
-sub-layer c = ?
+sub-layer c = omega (arith, few (c .before .before .before .before .args .s .now) (c .before .before .before .before .args .j) (c .before .before .before .before .args .mask .now) (c .before .before .before .before .pre .0))
 
--- src/lib.rt:160:34
 mul-layer : tie.Need-mul-layer
-mul-layer c = ?
+mul-layer c = omega (arith, few (c .before .before .before .before .args .s .now) (c .before .before .before .before .args .j) (c .before .before .before .before .args .mask .now) (c .before .before .before .before .pre .0))
 
--- src/lib.rt:160:34
 element-copy-out-layer : tie.Need-element-copy-out-layer
-element-copy-out-layer c = ?
+element-copy-out-layer c = omega (arith, few (c .before .before .before .before .args .s .now) (c .before .before .before .before .args .j) (c .before .before .before .before .args .mask .now) (c .before .before .before .before .pre .0))
 
--- src/lib.rt:160:16
 layer-requires : tie.Need-layer-requires
-layer-requires c κs = ?
+layer-requires c κs = let q = sides (c .before .before .before .before .before .args .s .now) (c .before .before .before .before .before .args .j) (c .before .before .before .before .before .args .mask .now) (c .before .before .before .before .before .pre .0) (c .before .before .byte-at .ensures .0) (c .before .byte-at2 .ensures .0) in (q .0, q .1, q .2, q .3, goal-small (c .before .before .before .before .before .args .s .now) (c .before .before .before .before .before .args .j) (c .before .before .before .before .before .args .mask .now) (c .before .before .before .before .before .pre .0) (c .before .before .byte-at .ensures .0) (c .before .byte-at2 .ensures .0) (c .before .before .before .before .before .args .goals .now) (c .before .before .before .before .before .pre .1) _ (omega (arith, few (c .before .before .before .before .before .args .s .now) (c .before .before .before .before .before .args .j) (c .before .before .before .before .before .args .mask .now) (c .before .before .before .before .before .pre .0))))
 
--- src/lib.rt:161:24
 mul-store : tie.Need-mul-store
-mul-store c = ?
+mul-store c = omega (arith, few (c .before .before .before .before .before .before .before .args .s .now) (c .before .before .before .before .before .before .before .args .j) (c .before .before .before .before .before .before .before .args .mask .now) (c .before .before .before .before .before .before .before .pre .0))
 
--- src/lib.rt:161:5
 store-requires : tie.Need-store-requires
-store-requires c κs = ?
+store-requires c κs = let q = sides (c .before .before .before .before .before .before .before .before .args .s .now) (c .before .before .before .before .before .before .before .before .args .j) (c .before .before .before .before .before .before .before .before .args .mask .now) (c .before .before .before .before .before .before .before .before .pre .0) (c .before .before .before .before .before .byte-at .ensures .0) (c .before .before .before .before .byte-at2 .ensures .0) in (q .0, q .1, q .2, q .3, room (c .before .before .before .before .before .before .before .before .args .s .now) (c .before .before .before .before .before .before .before .before .args .j) (c .before .before .before .before .before .before .before .before .args .mask .now) (c .before .before .before .before .before .before .before .before .pre .0) (c .before .before .before .before .before .byte-at .ensures .0) (c .before .before .before .before .byte-at2 .ensures .0) (c .before .before .before .before .before .before .before .before .args .n) _ (omega (arith, few (c .before .before .before .before .before .before .before .before .args .s .now) (c .before .before .before .before .before .before .before .before .args .j) (c .before .before .before .before .before .before .before .before .args .mask .now) (c .before .before .before .before .before .before .before .before .pre .0))) (c .before .before .before .before .before .before .before .before .pre .3))
 
--- src/lib.rt:162:32
 sub-store : tie.Need-sub-store
-sub-store c = ?
+sub-store c = omega (arith, few (c .before .before .before .before .before .before .before .before .before .before .before .before .args .s .now) (c .before .before .before .before .before .before .before .before .before .before .before .before .args .j) (c .before .before .before .before .before .before .before .before .before .before .before .before .args .mask .now) (c .before .before .before .before .before .before .before .before .before .before .before .before .pre .0))
 
--- src/lib.rt:162:24
 mul-store-2 : tie.Need-mul-store-2
-mul-store-2 c = ?
+mul-store-2 c = omega (arith, few (c .before .before .before .before .before .before .before .before .before .before .before .before .args .s .now) (c .before .before .before .before .before .before .before .before .before .before .before .before .args .j) (c .before .before .before .before .before .before .before .before .before .before .before .before .args .mask .now) (c .before .before .before .before .before .before .before .before .before .before .before .before .pre .0))
 
--- src/lib.rt:162:5
 store-requires-2 : tie.Need-store-requires-2
-store-requires-2 c κs = ?
+store-requires-2 c κs = let q = sides (c .before .before .before .before .before .before .before .before .before .before .before .before .before .args .s .now) (c .before .before .before .before .before .before .before .before .before .before .before .before .before .args .j) (c .before .before .before .before .before .before .before .before .before .before .before .before .before .args .mask .now) (c .before .before .before .before .before .before .before .before .before .before .before .before .before .pre .0) (c .before .before .before .before .before .before .before .before .before .before .byte-at .ensures .0) (c .before .before .before .before .before .before .before .before .before .byte-at2 .ensures .0) in (q .0, q .1, q .2, q .3, room (c .before .before .before .before .before .before .before .before .before .before .before .before .before .args .s .now) (c .before .before .before .before .before .before .before .before .before .before .before .before .before .args .j) (c .before .before .before .before .before .before .before .before .before .before .before .before .before .args .mask .now) (c .before .before .before .before .before .before .before .before .before .before .before .before .before .pre .0) (c .before .before .before .before .before .before .before .before .before .before .byte-at .ensures .0) (c .before .before .before .before .before .before .before .before .before .byte-at2 .ensures .0) (c .before .before .before .before .before .before .before .before .before .before .before .before .before .args .n - 1) _ (omega (arith, few (c .before .before .before .before .before .before .before .before .before .before .before .before .before .args .s .now) (c .before .before .before .before .before .before .before .before .before .before .before .before .before .args .j) (c .before .before .before .before .before .before .before .before .before .before .before .before .before .args .mask .now) (c .before .before .before .before .before .before .before .before .before .before .before .before .before .pre .0))) (c .before .before .before .before .store .ensures .size ∙ c .before .before .before .before .before .before .before .before .before .before .before .before .before .pre .3))
 
--- src/lib.rt:154:1
 same-length : tie.Need-same-length
 same-length c = search needs
 
--- src/lib.rt:154:1
 returns : tie.Need-returns
-returns c = ?
+returns c = two-levels (c .before .before .before .before .before .before .before .before .before .before .before .before .before .before .before .before .args .s .now) (c .before .before .before .before .before .before .before .before .before .before .before .before .before .before .before .before .args .j) (c .before .before .before .before .before .before .before .before .before .before .before .before .before .before .before .before .args .mask .now) (c .before .before .before .before .before .before .before .before .before .before .before .before .before .before .before .before .pre .0) (c .before .before .before .before .before .before .before .before .before .before .before .before .before .byte-at .ensures .0) (c .before .before .before .before .before .before .before .before .before .before .before .before .byte-at2 .ensures .0) (c .before .before .before .before .before .before .before .before .before .before .before .before .before .before .before .before .args .goals .now) (c .before .before .before .before .before .before .before .before .before .before .before .before .before .before .before .before .pre .1) (c .before .before .before .before .before .before .before .before .before .before .before .before .before .before .before .before .args .n) (c .before .before .before .before .before .before .before .before .before .before .before .before .before .before .before .before .pre .2) _ _ _ _ (c .before .before .before .before .before .before .before .before .before .before .before .before .before .before .before .before .pre .3) (c .before .before .before .before .before .before .before .before .before .before .layer .ensures) (c .before .before .before .before .before .before .before .store .ensures) (c .before .before .store2 .ensures)
 
 pub last-two-spec : {M : Type 1} → statement M
 last-two-spec =

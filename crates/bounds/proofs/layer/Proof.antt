@@ -1,54 +1,42 @@
+-- `bounds::layer` meets its contract: what is returned passed the test, or is zeros. Assumes nothing.
 use borrow.Author.Needs.{needs}
+use native.Mathlib.Omega.{arith}
+use Rattle.bounds.proofs.Test.{zero-layer, grid-fits}
 use Rattle.bounds.proofs.layer.Statement.{statement}
 use Rattle.bounds.proofs.layer.Tie as tie
-use Rattle.bounds.proofs.layer.Reads as reads
-use Rattle.bounds.proofs.layer.Lts as lts
-use Rattle.bounds.proofs.distances.Reads as distances-reads
-use Rattle.bounds.proofs.even.Reads as even-reads
 
--- src/lib.rt:123:32
 add-distances : tie.Need-add-distances
 add-distances c = search needs
 
--- src/lib.rt:123:16
 distances-requires : tie.Need-distances-requires
 distances-requires c κs = search needs
 
--- src/lib.rt:124:15
 array-read-if1 : tie.Need-array-read-if1
 array-read-if1 c = search needs
 
--- src/lib.rt:125:9
 returns : tie.Need-returns
-returns c = ?
+returns c = zero-layer (c .before .before .args .mask .now) (c .before .before .args .w) (c .before .before .args .h) (c .before .before .args .goal) (c .before .before .args .base)
 
--- src/lib.rt:127:26
 add-even : tie.Need-add-even
 add-even c = search needs
 
--- src/lib.rt:127:34
 add-even-2 : tie.Need-add-even-2
 add-even-2 c = search needs
 
--- src/lib.rt:127:44
 add-even-3 : tie.Need-add-even-3
 add-even-3 c = search needs
 
--- src/lib.rt:127:33
 mul-even : tie.Need-mul-even
-mul-even c = ?
+mul-even c = omega (arith, grid-fits (c .before .before .before .args .w) (c .before .before .before .args .h) (c .before .before .before .pre .1) (c .before .before .before .pre .2) (c .before .before .before .pre .3) .1)
 
--- src/lib.rt:127:8
 even-requires : tie.Need-even-requires
-even-requires c κs = ?
+even-requires c κs = let q = grid-fits (c .before .before .before .args .w) (c .before .before .before .args .h) (c .before .before .before .pre .1) (c .before .before .before .pre .2) (c .before .before .before .pre .3) in (omega arith, omega arith, q .0, q .1)
 
--- src/lib.rt:128:9
 returns-2 : tie.Need-returns-2
-returns-2 c = ?
+returns-2 c = record { even = c .before .even .ensures (c .if2 .taken); ends = omega (arith, c .before .before .before .if1 .left) }
 
--- src/lib.rt:119:1
 returns-3 : tie.Need-returns-3
-returns-3 c = ?
+returns-3 c = zero-layer (c .before .before .before .before .before .args .mask .now) (c .before .before .before .before .before .args .w) (c .before .before .before .before .before .args .h) (c .before .before .before .before .before .args .goal) (c .before .before .before .before .before .args .base)
 
 pub layer-spec : {M : Type 1} → statement M
 layer-spec =

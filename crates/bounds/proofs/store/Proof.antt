@@ -8,9 +8,6 @@ use Rattle.layers.specs.Fill.{Filled}
 use Rattle.bounds.proofs.Rows.{row-asks, rows-none, rows-more, rows-all}
 use Rattle.bounds.proofs.store.Statement.{statement}
 use Rattle.bounds.proofs.store.Tie as tie
-use Rattle.bounds.proofs.store.Reads as reads
-use Rattle.bounds.proofs.store.Lts as lts
-use Rattle.bounds.proofs.copy_row.Reads as copy-row-reads
 
 abbrev Inv-loop : tie.InvT-loop
 Inv-loop layer w h at table₀ y₀ table y = (y ≤ h) × Filled at (at + y * w) (λ p. getD layer (padOf w (p - at)) 0) table₀ table
