@@ -1,6 +1,6 @@
 -- The bounds of a label in the table, out of a layer that passed the test; and the table, filled label by label. Assumes nothing.
-use Prim.Native.Nat.{ℕ, zero, suc, _+_, _-_, _*_, _≤_, _<_, max}
-use mathlib.Core.Path.{_≡_, refl, sym, ap, _∙_, subst}
+use Prim.Native.Nat.{ℕ, suc, _+_, _-_, _*_, _≤_, _<_}
+use mathlib.Core.Path.{_≡_, sym, ap, _∙_, subst}
 use mathlib.Core.Logic.{_⊎_, inl, inr, ⊎-elim}
 use mathlib.Core.Bool.{Bool, true, false, cond}
 use mathlib.Core.List.{List, [], _∷_, List·Memᴰ as Mem, List·Memᴰ·not-nil as not-nil, List·Memᴰ·cases-cons as cases-cons}
@@ -10,8 +10,7 @@ use lib.ListN.{length, getD}
 use lib.Dec.{T}
 use Rattle.deck.specs.Sheet.{Sheet, read, area, free, goalsOf, lastGoal}
 use Rattle.deck.specs.declared.Task.{Task}
-use Rattle.meaning.specs.Meaning.{Free, Step, Beside}
-use Rattle.meaning.proofs.Tests.{Says}
+use Rattle.meaning.specs.Meaning.{Free, Step}
 use Rattle.meaning.proofs.Paths.{free-meant}
 use Rattle.sheet.proofs.Accepted.{width-range, height-range, area-range, goals-range, goal-on-grid, last-of}
 use Rattle.kernel.specs.Near.{consIf, hasAbove, hasLeft, hasRight, hasBelow, near}
@@ -21,7 +20,6 @@ use Rattle.kernel.proofs.OfSheet.{step-free-meant}
 use Rattle.bars.specs.Padded.{padOf, MaskOf}
 use Rattle.bars.proofs.Grid.{pad-least, pad-most, pad-above, pad-left, pad-right, pad-below, size-of, size-small}
 use Rattle.layers.specs.Fill.{Filled}
-use Rattle.layers.specs.Raise.{GoalsAt}
 use Rattle.passes.specs.Ready.{Goals}
 use Rattle.bounds.specs.Graded.{mostAround, Even, Layer, Given, Graded}
 

@@ -1,13 +1,13 @@
 -- A table that passes the test bounds the steps that are left from below. Assumes nothing.
 use Prim.Native.Nat.{ℕ, zero, suc, _+_, _-_, _*_, _≤_, _<_}
-use mathlib.Core.Path.{_≡_, refl, sym, ap, subst}
-use mathlib.Core.Bool.{Bool, true, false, cond, _&&_}
+use mathlib.Core.Path.{_≡_, refl, sym, subst}
+use mathlib.Core.Bool.{Bool, true, false, cond}
 use mathlib.Core.List.{List, [], _∷_}
 use native.Mathlib.Nat.{le-refl}
 use native.Mathlib.Omega.{arith}
 use lib.ListN.{length, getD}
 use lib.Dec.{T, eqb, eqb→eq}
-use Rattle.deck.specs.Sheet.{Sheet, area, goalsOf, lastGoal}
+use Rattle.deck.specs.Sheet.{Sheet, goalsOf, lastGoal}
 use Rattle.deck.specs.declared.Carrier.{Carrier}
 use Rattle.deck.specs.declared.Task.{Task}
 use Rattle.deck.specs.declared.Constraint.{Constraint}

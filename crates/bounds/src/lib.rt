@@ -3,10 +3,9 @@
 use deck::Task;
 ghost use mathlib.Core.Path.{_≡_};
 ghost use mathlib.Core.Bool.{true};
-ghost use mathlib.Core.List.{List};
-ghost use Prim.Native.Nat.{ℕ, suc, _+_, _-_, _*_, _<_, _≤_, max, min};
+ghost use Prim.Native.Nat.{suc, _+_, _-_, _*_, _<_, _≤_, max, min};
 ghost use lib.ListN.{length, getD};
-ghost use Rattle.deck.specs.Sheet.{Sheet, read, countOf, goalsOf, cause};
+ghost use Rattle.deck.specs.Sheet.{read, countOf, goalsOf, cause};
 ghost use Rattle.bars.specs.Padded.{padOf, MaskOf};
 ghost use Rattle.layers.specs.Fill.{Filled};
 ghost use Rattle.passes.specs.Ready.{Goals};

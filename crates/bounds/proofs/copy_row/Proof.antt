@@ -1,7 +1,7 @@
 -- `bounds::copy_row` meets its contract: the places passed are filled. Assumes nothing.
 use borrow.Author.Needs.{needs}
 use native.Mathlib.Omega.{arith}
-use mathlib.Core.Path.{_≡_, sym, _∙_, ap}
+use mathlib.Core.Path.{_≡_, sym, ap}
 use Prim.Native.Nat.{ℕ, _+_, _-_, _≤_}
 use lib.ListN.{getD}
 use Rattle.layers.specs.Fill.{Filled}

@@ -1,7 +1,7 @@
 -- `bounds::store` meets its contract: the rows passed are copied. Assumes nothing.
 use borrow.Author.Needs.{needs}
 use native.Mathlib.Omega.{arith}
-use Prim.Native.Nat.{ℕ, _+_, _-_, _*_, _≤_}
+use Prim.Native.Nat.{_+_, _-_, _*_, _≤_}
 use lib.ListN.{getD}
 use Rattle.bars.specs.Padded.{padOf}
 use Rattle.layers.specs.Fill.{Filled}
