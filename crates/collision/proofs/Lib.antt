@@ -1,3 +1,4 @@
 pub mod Scans
 pub mod Words
+pub mod Marks
 pub mod Calls

@@ -116,6 +116,19 @@ module _ {B : Type 0} (f : ℕ × ℕ → B) (g : ℕ × ℕ → Bool) (m : ℕ)
     unfolding fromPair made
     pair-end i j h = rw (to-end m j h)
 
+    -- where all pairs fail it, nothing is made
+    module _ (e : (i j : ℕ) → i < j → j < m → g (i, j) ≡ false) where
+      pairs-passed : (d i j : ℕ) → i < j → d + j ≡ m → fromPair i j ≡ fromRow (i + 1)
+      pairs-passed zero i j a q = pair-end i j (omega arith)
+      pairs-passed (suc d) i j a q = pair-passed i j (omega arith) (e i j a (omega arith)) ∙ pairs-passed d i (j + 1) (omega arith) (omega arith)
+
+      rows-from : (d i : ℕ) → d + i ≡ m → fromRow i ≡ rest
+      rows-from zero i q = row-end i (omega arith)
+      rows-from (suc d) i q = row-step i (omega arith) ∙ pairs-passed d i (i + 1) (omega arith) (omega arith) ∙ rows-from d (i + 1) (omega arith)
+
+      pub rows-passed : fromRow 0 ≡ rest
+      rows-passed = rows-from m 0 (omega arith)
+
 module _ (m h : ℕ) (ps : List (List ℕ)) where
   -- the collisions from time t on
   unfoldable pub fromTime : ℕ → List Collision

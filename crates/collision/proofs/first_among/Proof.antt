@@ -1,11 +1,13 @@
 -- `collision::first_among` meets its contract. At every place of the loops the first collision is the head of what is left of the
--- list of collisions, and nothing is found yet. The measures are the times and the carriers that are left. Assumes nothing.
+-- list of collisions, and nothing is found yet; the times passed over by the marks have none. The measures are the times and the
+-- carriers that are left. Assumes nothing.
 use Prim.Native.Nat.{ℕ, suc, _+_, _-_, _<_}
 use mathlib.Core.Path.{_≡_, refl, ap, _∙_}
 use mathlib.Core.Logic.{⊎-elim}
 use mathlib.Core.List.{List}
 use native.Mathlib.Omega.{arith}
 use native.Mathlib.Numerals.{add-one}
+use borrow.Author.Needs.{needs}
 use denote.Ref.{now}
 use Rattle.deck.specs.Lists.{pieces, headOf}
 use Rattle.deck.specs.Collisions.{firstCollision}
@@ -13,8 +15,9 @@ use Rattle.deck.specs.declared.Collision.{Collision}
 use Rattle.deck.specs.declared.CollisionAnswer.{CollisionAnswer}
 use Rattle.deck.specs.declared.CollisionAnswer.the-variants.{NoCollision}
 use Rattle.collision.specs.Words.{Row}
-use Rattle.collision.proofs.Scans.{fromTime, placesFrom, placesFromPair, movesFrom, movesFromPair, first-of-all, time-step, time-end, moves-follow, no-moves-follow, row-step, row-end, pair-passed, pair-taken, pair-end}
+use Rattle.collision.proofs.Scans.{fromTime, placesFrom, placesFromPair, movesFrom, movesFromPair, time-step, time-end, moves-follow, no-moves-follow, row-step, row-end, pair-passed, pair-taken, pair-end}
 use Rattle.collision.proofs.Words.{none-found, place-found, move-found, row-within, place-test, move-test}
+use Rattle.collision.proofs.Marks.{calm-first}
 use Rattle.collision.proofs.first_among.Statement.{statement}
 use Rattle.collision.proofs.first_among.Tie as tie
 
@@ -26,36 +29,36 @@ onward m h ws found i e = (i .0, i .1 ∙ ap headOf e)
 
 -- times
 abbrev I0 : tie.InvT-search
-I0 m h paths n found₀ t₀ found t = Left m h paths found (fromTime m h (pieces m (suc h) paths) t)
+I0 m h paths n found₀ from t₀ found t = Left m h paths found (fromTime m h (pieces m (suc h) paths) t)
 
 abbrev μ0 : tie.MeasureT-search
-μ0 m h paths n found₀ t₀ found t = n - t
+μ0 m h paths n found₀ from t₀ found t = n - t
 
 -- place collisions
 abbrev I1 : tie.InvT-loop
-I1 m h paths n found₀ t i₀ found i = Left m h paths found (placesFrom m h (pieces m (suc h) paths) t i)
+I1 m h paths n found₀ from t i₀ found i = Left m h paths found (placesFrom m h (pieces m (suc h) paths) t i)
 
 abbrev μ1 : tie.MeasureT-loop
-μ1 m h paths n found₀ t i₀ found i = m - i
+μ1 m h paths n found₀ from t i₀ found i = m - i
 
 abbrev I2 : tie.InvT-loop2
-I2 m h paths n found₀ t i j₀ found j = Left m h paths found (placesFromPair m h (pieces m (suc h) paths) t i j)
+I2 m h paths n found₀ from t i j₀ found j = Left m h paths found (placesFromPair m h (pieces m (suc h) paths) t i j)
 
 abbrev μ2 : tie.MeasureT-loop2
-μ2 m h paths n found₀ t i j₀ found j = m - j
+μ2 m h paths n found₀ from t i j₀ found j = m - j
 
 -- move collisions
 abbrev I3 : tie.InvT-loop3
-I3 m h paths n found₀ t i₀ found i = Left m h paths found (movesFrom m h (pieces m (suc h) paths) t i)
+I3 m h paths n found₀ from t i₀ found i = Left m h paths found (movesFrom m h (pieces m (suc h) paths) t i)
 
 abbrev μ3 : tie.MeasureT-loop3
-μ3 m h paths n found₀ t i₀ found i = m - i
+μ3 m h paths n found₀ from t i₀ found i = m - i
 
 abbrev I4 : tie.InvT-loop4
-I4 m h paths n found₀ t i j₀ found j = Left m h paths found (movesFromPair m h (pieces m (suc h) paths) t i j)
+I4 m h paths n found₀ from t i j₀ found j = Left m h paths found (movesFromPair m h (pieces m (suc h) paths) t i j)
 
 abbrev μ4 : tie.MeasureT-loop4
-μ4 m h paths n found₀ t i j₀ found j = m - j
+μ4 m h paths n found₀ from t i j₀ found j = m - j
 
 -- the path of a carrier below m is within the words
 row : (s : tie.Start I2 μ2 I1 μ1 I4 μ4 I3 μ3 I0 μ0) (i : ℕ) → i < s .args .m → Row (now (s .args .paths)) (s .args .h + 1) i
@@ -64,8 +67,11 @@ row s i l = row-within (s .args .m) (s .args .h) (s .args .h + 1) (now (s .args 
 add-n : tie.Need-add-n I2 μ2 I1 μ1 I4 μ4 I3 μ3 I0 μ0
 add-n c = omega arith
 
+calm-until-requires : tie.Need-calm-until-requires I2 μ2 I1 μ1 I4 μ4 I3 μ3 I0 μ0
+calm-until-requires c κs = search needs
+
 search-holds : tie.Need-search-holds I2 μ2 I1 μ1 I4 μ4 I3 μ3 I0 μ0
-search-holds c = (refl, first-of-all _ _ _)
+search-holds c = (refl, calm-first _ _ _ _ (c .calm-until .ensures .0) (c .calm-until .ensures .1))
 
 loop-holds : tie.Need-loop-holds I2 μ2 I1 μ1 I4 μ4 I3 μ3 I0 μ0
 loop-holds c =
@@ -80,7 +86,7 @@ loop2-holds c =
 
 meet-requires : tie.Need-meet-requires I2 μ2 I1 μ1 I4 μ4 I3 μ3 I0 μ0
 meet-requires c κs =
-    let s = c .before .before .before .before .before .before .before in (
+    let s = c .before .before .before .before .before .before .before .before in (
       row s _ (c .before .before .loop-test .taken),
       row s _ (c .loop2-test .taken),
       omega arith,
@@ -88,7 +94,7 @@ meet-requires c κs =
 
 place-answer-requires : tie.Need-place-answer-requires I2 μ2 I1 μ1 I4 μ4 I3 μ3 I0 μ0
 place-answer-requires c κs =
-    let s = c .before .before .before .before .before .before .before .before .before in
+    let s = c .before .before .before .before .before .before .before .before .before .before in
     (row s _ (c .before .before .before .before .loop-test .taken), omega arith)
 
 add-j-2 : tie.Need-add-j-2 I2 μ2 I1 μ1 I4 μ4 I3 μ3 I0 μ0
@@ -127,7 +133,7 @@ loop4-holds c =
 
 exchange-requires : tie.Need-exchange-requires I2 μ2 I1 μ1 I4 μ4 I3 μ3 I0 μ0
 exchange-requires c κs =
-    let s = c .before .before .before .before .before .before .before .before .before .before in (
+    let s = c .before .before .before .before .before .before .before .before .before .before .before in (
       row s _ (c .before .before .loop3-test .taken),
       row s _ (c .loop4-test .taken),
       omega (arith, c .before .before .before .before .if2 .taken),
@@ -135,7 +141,7 @@ exchange-requires c κs =
 
 move-answer-requires : tie.Need-move-answer-requires I2 μ2 I1 μ1 I4 μ4 I3 μ3 I0 μ0
 move-answer-requires c κs =
-    let s = c .before .before .before .before .before .before .before .before .before .before .before .before in
+    let s = c .before .before .before .before .before .before .before .before .before .before .before .before .before in
     (row s _ (c .before .before .before .before .loop3-test .taken), omega (arith, c .before .before .before .before .before .before .if2 .taken))
 
 add-j-4 : tie.Need-add-j-4 I2 μ2 I1 μ1 I4 μ4 I3 μ3 I0 μ0
@@ -196,4 +202,4 @@ returns-3 c =
 pub first-among-spec : {M : Type 1} → statement M
 first-among-spec =
     tie.close
-    (tie.spec I2 μ2 I1 μ1 I4 μ4 I3 μ3 I0 μ0 add-n search-holds loop-holds add-j loop2-holds meet-requires place-answer-requires add-j-2 loop2-less loop2-again add-i loop-less loop-again loop3-holds add-j-3 loop4-holds exchange-requires move-answer-requires add-j-4 loop4-less loop4-again add-i-2 loop3-less loop3-again add-t search-less search-again returns returns-2 returns-3)
+    (tie.spec I2 μ2 I1 μ1 I4 μ4 I3 μ3 I0 μ0 add-n calm-until-requires search-holds loop-holds add-j loop2-holds meet-requires place-answer-requires add-j-2 loop2-less loop2-again add-i loop-less loop-again loop3-holds add-j-3 loop4-holds exchange-requires move-answer-requires add-j-4 loop4-less loop4-again add-i-2 loop3-less loop3-again add-t search-less search-again returns returns-2 returns-3)
