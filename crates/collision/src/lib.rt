@@ -94,7 +94,7 @@ fn mark(t: usize, i: usize) -> u32
 // be one of carrier 0's, so that places at time 0 are compared and no test of t is needed. The first two tests stand together, so
 // that the compiler makes one branch of them: whether a carrier waits is hard to predict.
 fn free(paths: &[u16], n: usize, m: usize, i: Carrier, s: usize, t: usize, seen: usize) -> bool
-    requires { ⌜ (m * n ≤ length (now paths)) × (i .0 < m) × (m ≤ 16) × (s < n) × (t < n) × (n ≤ 65536) ⌝ }
+    requires { ⌜ (m * n ≤ length (now paths)) × (i .0 < m) × (m ≤ 16) × (s ≤ t) × (t < n) × (n ≤ 65536) ⌝ }
     ensures { λ r. ⌜ (r ≡ true → Free (now (paths .entry)) n (i .0) s t seen) ⌝ }
 {
     if seen < 16 * t {
