@@ -1,20 +1,28 @@
 -- From what the calls ensure of their answers to what the exported calls leave in the words lent. Assumes nothing.
-use Prim.Native.Nat.{ℕ, zero, suc, _≤_, _<_}
+use Prim.Native.Nat.{ℕ, zero, suc, _+_, _≤_, _<_}
 use mathlib.Core.Path.{_≡_, refl, sym, ap, subst, _∙_}
 use mathlib.Core.Logic.{_≢_}
-use mathlib.Core.List.{List, [], _∷_}
+use mathlib.Core.List.{List, [], _∷_, _++_, append-assoc}
+use native.Mathlib.Numerals.{add-one}
+use native.Mathlib.Omega.{arith}
+use lib.ListN.{length, getD, set, take}
+use lib.Seq.{take-all, take-suc, take-suc-set}
 use borrow.Author.Tests.{lt-ltb, le-ltb}
 use Rattle.deck.specs.Sheet.{Stretch, read, cause, task, countOf, pairAt, taskPair, _orElse_}
-use Rattle.deck.specs.Calls.{workspaceFor, goalsCause, goalsCall, stretchFor, PathCall, AssignmentCall}
-use Rattle.deck.specs.Numbers.{pathNumbers, assignmentNumbers}
+use Rattle.deck.specs.Calls.{workspaceFor, goalsCause, goalsCall, stretchFor, PathCall, AssignmentCall, SearchCall}
+use Rattle.deck.specs.Numbers.{pathNumbers, assignmentNumbers, kindNumbers, searchNumbers}
 use Rattle.deck.specs.declared.Carrier.{Carrier}
 use Rattle.deck.specs.declared.Task.{Task}
 use Rattle.deck.specs.declared.PathAnswer.{PathAnswer}
 use Rattle.deck.specs.declared.AssignmentAnswer.{AssignmentAnswer}
+use Rattle.deck.specs.declared.SearchKind.{SearchKind}
+use Rattle.deck.specs.declared.SearchKind.the-variants.{Plan, NoPlan, Spent, Refused as SearchRefused}
+use Rattle.deck.specs.declared.SearchAnswer.{SearchAnswer}
 use Rattle.meaning.specs.Meaning.{_at_}
-use Rattle.planner.specs.Small.{SmallPath, SmallAssignment}
-use Rattle.planner.specs.Exports.{workspaceWanted, stretchNumbers, PathExport, AssignmentExport}
-use Rattle.planner.proofs.Sizes.{path-small, assignment-small}
+use Rattle.optimal.specs.Demand.{RightCall}
+use Rattle.planner.specs.Small.{SmallPath, SmallAssignment, SmallSearch}
+use Rattle.planner.specs.Exports.{workspaceWanted, stretchNumbers, PathExport, AssignmentExport, SearchExport}
+use Rattle.planner.proofs.Sizes.{path-small, assignment-small, search-small}
 
 -- THE SHEET
 pub wanted : {n : ℕ} (s : List ℕ) → cause s ≡ 0 → n ≡ workspaceFor (read s) → n ≡ workspaceWanted (cause s) (read s)
@@ -64,3 +72,39 @@ module _ {m : ℕ} {table : List ℕ} {r : AssignmentAnswer} where
   pub assignment-exported : {numbers : List ℕ} → AssignmentCall m table r → numbers ≡ assignmentNumbers (r .kind)
       → AssignmentExport m table (r .tasks) (r .rows) (r .columns) numbers
   assignment-exported a e = record { numbered = e ∙ ap assignmentNumbers (a .kind); listed = a .tasks; priced = a .prices }
+
+-- THE SEARCH: the task list behind the first five numbers, one task more and all
+pub tasks-more : (l head tasks : List ℕ) (k v : ℕ) → 5 + k < length l → k < length tasks → v ≡ getD tasks k 0
+    → take (5 + k) l ≡ take 5 head ++ take k tasks → take (5 + (k + 1)) (set l (5 + k) v) ≡ take 5 head ++ take (k + 1) tasks
+tasks-more l head tasks k v h g e t =
+    let n : 5 + (k + 1) ≡ suc (5 + k) = omega arith in
+    rw (n, add-one k, take-suc tasks k 0 g)
+    (take-suc-set l (5 + k) v h ∙ rw (t, e) (append-assoc (take 5 head) (take k tasks) (getD tasks k 0 ∷ [])))
+
+pub tasks-all : (l head tasks : List ℕ) (k : ℕ) → length l ≤ 5 + k → length tasks ≤ k → take (5 + k) l ≡ take 5 head ++ take k tasks
+    → l ≡ take 5 head ++ tasks
+tasks-all l head tasks k h g t = sym (take-all (5 + k) l h) ∙ t ∙ rw (take-all k tasks g) refl
+
+-- the two numbers of a kind
+kind-two : (k : SearchKind) (l : List ℕ) → (getD (kindNumbers k) 0 0 ∷ getD (kindNumbers k) 1 0 ∷ l) ≡ kindNumbers k ++ l
+kind-two Plan l = refl
+kind-two NoPlan l = refl
+kind-two Spent l = refl
+kind-two (SearchRefused c) l = refl
+
+pub search-numbered : (a : SearchAnswer) (first : List ℕ) (f n b : ℕ) → first ≡ kindNumbers (a .kind) → f ≡ a .flowtime → n ≡ a .nodes → b ≡ a .bound
+    → (getD first 0 0 ∷ getD first 1 0 ∷ f ∷ n ∷ b ∷ a .tasks) ≡ searchNumbers a
+search-numbered a first f n b ek ef en eb = rw (ek, ef, en, eb) (kind-two (a .kind) (a .flowtime ∷ a .nodes ∷ a .bound ∷ a .tasks))
+
+module _ {s work out : List ℕ} {r : SearchAnswer} {work′ out′ : List ℕ} where
+  pub search-answer-small : SearchCall s work out r work′ out′ → SmallSearch r
+  search-answer-small p = subst SmallSearch (sym (p .answered)) (search-small s _ _)
+
+  pub search-exported : {numbers : List ℕ} → SearchCall s work out r work′ out′ → RightCall (read s) r out′ → numbers ≡ searchNumbers r
+      → SearchExport s work out numbers work′ out′
+  search-exported p q e = record {
+    numbered = e ∙ ap searchNumbers (p .answered);
+    written = p .written;
+    refused-work = p .refused-work;
+    right = subst (λ a. RightCall (read s) a out′) (p .answered) q;
+  }

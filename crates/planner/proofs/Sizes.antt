@@ -2,16 +2,21 @@
 use Prim.Native.Nat.{ℕ, zero, suc, _+_, _*_, _≤_, _<_}
 use mathlib.Core.Path.{_≡_, refl, sym}
 use mathlib.Core.Logic.{⊎-elim}
-use mathlib.Core.List.{List, [], _∷_}
+use mathlib.Core.Bool.{Bool, true, false}
+use mathlib.Core.List.{List, [], _∷_, map}
 use mathlib.Core.Option.{Option, none, some}
 use native.Mathlib.Nat.{mul-le-mul-right, suc-mul}
 use native.Mathlib.Omega.{arith}
 use lib.ListN.{length, getD}
-use Rattle.deck.specs.Lists.{sum, pieces}
-use Rattle.deck.specs.Sheet.{read, area, countOf, startOf}
-use Rattle.deck.specs.Paths.{leastPath}
+use lib.Dec.{leb}
+use Rattle.deck.specs.Lists.{below, sum, pieces}
+use Rattle.deck.specs.Sheet.{Sheet, read, cause, area, task, countOf, startOf}
+use Rattle.deck.specs.Paths.{leastPath, finishOf}
 use Rattle.deck.specs.Assignments.{leastAssignment, sumOf, entries, barred}
-use Rattle.deck.specs.Calls.{constraintsOf, pathCause, pathFound, pathAnswerFor, assignmentCause, leastFor, assignmentKind}
+use Rattle.deck.specs.Search.{Node, State, Selected, Turn, done, more, Answer, plan, noPlan, spent, cheapest, toMake, extend, expand, turnWith, turn, onward, run, searchFrom, searched}
+use Rattle.deck.specs.Planner.{problem, answerOr, planFor}
+use Rattle.deck.specs.Calls.{constraintsOf, pathCause, pathFound, pathAnswerFor, assignmentCause, leastFor, assignmentKind, searchCause, searchFound, searchAnswerFor, searchAnswer}
+use Rattle.deck.specs.declared.Constraint.{Constraint}
 use Rattle.deck.specs.declared.Carrier.{Carrier}
 use Rattle.deck.specs.declared.Task.{Task}
 use Rattle.deck.specs.declared.Collision.the-variants.{Place, Move}
@@ -21,15 +26,22 @@ use Rattle.deck.specs.declared.CheckAnswer.{CheckAnswer}
 use Rattle.deck.specs.declared.CheckAnswer.the-variants.{Yes, No, Refused as CheckRefused}
 use Rattle.meaning.specs.Meaning.{_at_}
 use Rattle.meaning.proofs.LeastPath.{LeastMeant, least-path-meant}
-use Rattle.meaning.proofs.Accepted.{accepted, header-says, accepted-horizon, accepted-start}
+use Rattle.meaning.proofs.Accepted.{accepted, header-says, accepted-limit, accepted-horizon, accepted-start}
 use Rattle.meaning.proofs.Assignments.{Least, least-assignment, entries-length, entries-at}
+use Rattle.optimal.specs.Plans.{Laws}
+use Rattle.optimal.proofs.Sums.{length-below, getD-below}
+use Rattle.optimal.proofs.Nodes.{InOrder}
+use Rattle.optimal.proofs.Invariant.{Chosen, Picked, Inv, start-inv, TurnRight, turn-right}
+use Rattle.optimal.proofs.Select.{cheapest-picks}
+use Rattle.optimal.proofs.Deck.{rules, laws}
 use Rattle.prices.proofs.Growth.{lower}
 use Rattle.collision.specs.Meant.{Meant as CollisionMeant}
 use Rattle.collision.proofs.Words.{place-in}
 use Rattle.plan_check.specs.Meant.{PlanFor, Meant as CheckMeant}
 use Rattle.path.proofs.Calling.{NoCause, no-cause}
 use Rattle.assignment.proofs.Calls.{count-high}
-use Rattle.planner.specs.Small.{word, SmallPath, SmallAssignment, SmallFound, SmallCheck}
+use Rattle.search.proofs.Calling.{no-cause as search-no-cause}
+use Rattle.planner.specs.Small.{word, SmallPath, SmallAssignment, SmallFound, SmallSearch, SmallCheck}
 
 -- a sum of numbers of at most b
 sum-most : (b : ℕ) (l : List ℕ) → ((i : ℕ) → i < length l → l at i ≤ b) → sum l ≤ length l * b
@@ -130,3 +142,110 @@ module _ (s tasks ws : List ℕ) where
   check-small (Yes f) l = flow-small f (l f .0 refl)
   check-small No l = tt
   check-small (CheckRefused c) l = tt
+
+-- THE SEARCH: a node costs a sum of finishes, and no more nodes are made than the limit
+abbrev SmallAnswer : Answer (List ℕ) → Type 0
+SmallAnswer (plan a ps f n b) = (f < word) × (n < word) × (b < word)
+SmallAnswer (noPlan n) = n < word
+SmallAnswer (spent n b) = (n < word) × (b < word)
+
+abbrev SmallRun : Option (Answer (List ℕ)) → Type 0
+SmallRun none = Unit {0}
+SmallRun (some a) = SmallAnswer a
+
+abbrev SmallTurn : Turn (List ℕ) Constraint → Type 0
+SmallTurn (done a) = SmallAnswer a
+SmallTurn (more st) = Unit {0}
+
+module _ (s : List ℕ) (ok : cause s ≡ 0) where
+  abbrev d : Sheet
+  d = read s
+
+  abbrev Kept : State (List ℕ) Constraint → ℕ → Type 0
+  Kept st t = Inv (problem d) (rules d) (d .limit) st t
+
+  the-laws : Laws (problem d) (rules d)
+  the-laws = laws d (accepted-start s ok) (omega (arith, accepted-horizon s ok))
+
+  limit-small : d .limit < word
+  limit-small = omega (arith, header-says s .fact (accepted s ok .header) .0 .0 .1 .1)
+
+  -- at most twelve finishes of at most 255
+  cost-small : (n : Node (List ℕ) Constraint) → InOrder (problem d) (rules d) n → n .cost < word
+  unfolding problem
+  cost-small n o = omega (arith, o .cost-is, sum-small (map finish-at (below (d .count))) few finish)
+    where
+      finish-at : ℕ → ℕ
+      finish-at i = finishOf d (task (n .tasks at i)) (getD (n .paths) i [])
+
+      few : length (map finish-at (below (d .count))) ≤ 12
+      few = omega (arith, length-below (d .count) finish-at, header-says s .fact (accepted s ok .header) .0 .0 .0 .0 .1 .1)
+
+      finish : (i : ℕ) → i < length (map finish-at (below (d .count))) → map finish-at (below (d .count)) at i ≤ 65535
+      finish i h =
+          let l : i < d .count = omega (arith, length-below (d .count) finish-at) in
+          omega (arith, getD-below (d .count) finish-at i 0 l, o .least i l .0 .0 .finishes .rests .0, accepted-horizon s ok)
+
+  module _ (st : State (List ℕ) Constraint) (t : ℕ) (v : Kept st t) where
+    made-small : st .made < word
+    made-small = omega (arith, v .within, limit-small)
+
+    module _ (k : Selected (List ℕ) Constraint) (ch : Chosen _≡_ (st .opened) k) where
+      taken-small : k .node .cost < word
+      taken-small = cost-small (k .node) (v .in-order (k .node) (ch .out .taken))
+
+      bound-small : k .bound < word
+      bound-small = omega (arith, taken-small, ch .below (k .node) (ch .out .taken))
+
+      extend-small : (new : List (Node (List ℕ) Constraint)) (b : Bool) → SmallTurn (extend (problem d) (d .limit) cheapest st k new b)
+      extend-small new true = tt
+      extend-small new false = (limit-small, bound-small)
+
+      expand-small : (o : Option (Constraint × Constraint)) → SmallTurn (expand (problem d) (d .limit) cheapest st k o)
+      expand-small none = (taken-small, made-small, bound-small)
+      expand-small (some cc) = extend-small (toMake (problem d) (k .node) cc (st .rest)) (leb (st .made + length (toMake (problem d) (k .node) cc (st .rest))) (d .limit))
+
+    turn-small : SmallTurn (turn (problem d) (d .limit) cheapest st)
+    turn-small = go (cheapest (st .opened)) (cheapest-picks (st .opened))
+      where
+        go : (o : Option (Selected (List ℕ) Constraint)) → Picked _≡_ (st .opened) o → SmallTurn (turnWith (problem d) (d .limit) cheapest st o)
+        go none e = made-small
+        go (some k) ch = expand-small k ch (problem d .collision (k .node .paths))
+
+  run-small : (f t : ℕ) (st : State (List ℕ) Constraint) → Kept st t → SmallRun (run (problem d) (d .limit) cheapest f st)
+  run-small zero t st v = tt
+  run-small (suc f) t st v =
+      go (turn (problem d) (d .limit) cheapest st) (turn-small st t v)
+      (turn-right (problem d) (rules d) the-laws (d .limit) _≡_ cheapest cheapest-picks st t v) (λ u i. run-small f (suc t) u i)
+    where
+      go : (o : Turn (List ℕ) Constraint) → SmallTurn o → TurnRight (problem d) (rules d) the-laws (d .limit) _≡_ cheapest cheapest-picks t o
+          → ((u : State (List ℕ) Constraint) → Kept u (suc t) → SmallRun (run (problem d) (d .limit) cheapest f u))
+          → SmallRun (onward (problem d) (d .limit) cheapest (run (problem d) (d .limit) cheapest f) o)
+      go (done a) small right again = small
+      go (more u) small right again = again u right
+
+  from-small : (l : List (List ℕ)) → problem d .assignments ≡ l → SmallRun (searchFrom (problem d) (d .limit) cheapest l)
+  from-small [] e = omega arith
+  from-small (a ∷ l) e = run-small (suc (d .limit)) 0 _ (start-inv (problem d) (rules d) the-laws (d .limit) a l e (accepted-limit s ok))
+
+  plan-small : SmallAnswer (planFor d)
+  unfolding planFor searched
+  plan-small = go (searchFrom (problem d) (d .limit) cheapest (problem d .assignments)) (from-small (problem d .assignments) refl)
+    where
+      go : (o : Option (Answer (List ℕ))) → SmallRun o → SmallAnswer (answerOr o)
+      go none h = omega arith
+      go (some a) h = h
+
+found-small : (a : Answer (List ℕ)) → SmallAnswer a → SmallSearch (searchFound a)
+unfolding searchFound
+found-small (plan a ps f n b) h = h
+found-small (noPlan n) h = (omega arith, h, omega arith)
+found-small (spent n b) h = (omega arith, h .0, h .1)
+
+pub search-small : (s : List ℕ) (work out : ℕ) → SmallSearch (searchAnswer s work out)
+unfolding searchAnswer searchAnswerFor
+search-small s work out = go (searchCause s work out) refl
+  where
+    go : (c : ℕ) → searchCause s work out ≡ c → SmallSearch (searchAnswerFor c (read s))
+    go zero e = found-small (planFor (read s)) (plan-small s (search-no-cause s work out e .0))
+    go (suc c) e = (omega arith, omega arith, omega arith)

@@ -7,10 +7,11 @@ use mathlib.Core.List.{List, [], _∷_}
 use lib.ListN.{length}
 use lib.IntN.{ℤ}
 use Rattle.deck.specs.Sheet.{Sheet, Stretch, read}
-use Rattle.deck.specs.Calls.{workspaceFor, pathCause, pathAnswerFor, pathOutputFor, assignmentCause, leastFor, assignmentKind, assignmentTasks, PricesOf}
-use Rattle.deck.specs.Numbers.{pathNumbers, assignmentNumbers}
+use Rattle.deck.specs.Calls.{workspaceFor, pathCause, pathAnswerFor, pathOutputFor, assignmentCause, leastFor, assignmentKind, assignmentTasks, PricesOf, searchCause, searchAnswer, searchOutput}
+use Rattle.deck.specs.Numbers.{pathNumbers, assignmentNumbers, searchNumbers}
 use Rattle.deck.specs.declared.Carrier.{Carrier}
 use Rattle.deck.specs.declared.Task.{Task}
+use Rattle.optimal.specs.Demand.{RightCall}
 
 -- the words of workspace that an accepted sheet asks for, by its cause; 0 for any other
 unfoldable pub workspaceWanted : ℕ → Sheet → ℕ
@@ -32,3 +33,13 @@ pub record AssignmentExport (m : ℕ) (table tasks : List ℕ) (rows columns : L
   pub numbered : numbers ≡ assignmentNumbers (assignmentKind (assignmentCause m table) m table (leastFor (assignmentCause m table) m table))
   pub listed : tasks ≡ assignmentTasks (leastFor (assignmentCause m table) m table)
   pub priced : PricesOf m table (leastFor (assignmentCause m table) m table) rows columns
+
+-- the search: of the words lent, and as they stand afterwards
+pub record SearchExport (s work out numbers work′ out′ : List ℕ) : Type 0 where
+  pub numbered : numbers ≡ searchNumbers (searchAnswer s (length work) (length out))
+  pub written : out′ ≡ searchOutput s (length work) out
+  -- used workspace is free after an accepted call
+  pub refused-work : searchCause s (length work) (length out) ≢ 0 → work′ ≡ work
+  -- demand 3, of the answer that the numbers are those of: a plan is one and has least flowtime, without a plan there is none, and no
+  -- plan is below the bound of a spent search
+  pub right : RightCall (read s) (searchAnswer s (length work) (length out)) out′

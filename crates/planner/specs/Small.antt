@@ -8,6 +8,7 @@ use Rattle.deck.specs.declared.AssignmentKind.{AssignmentKind}
 use Rattle.deck.specs.declared.AssignmentKind.the-variants.{Least, NoAssignment, Refused as AssignmentRefused}
 use Rattle.deck.specs.declared.CollisionAnswer.{CollisionAnswer}
 use Rattle.deck.specs.declared.CollisionAnswer.the-variants.{Found as CollisionFound, NoCollision, Refused as CollisionRefused}
+use Rattle.deck.specs.declared.SearchAnswer.{SearchAnswer}
 use Rattle.deck.specs.declared.CheckAnswer.{CheckAnswer}
 use Rattle.deck.specs.declared.CheckAnswer.the-variants.{Yes, No, Refused as CheckRefused}
 
@@ -33,6 +34,9 @@ abbrev pub SmallFound : CollisionAnswer → Type 0
 SmallFound (CollisionFound c) = SmallCollision c
 SmallFound NoCollision = Unit {0}
 SmallFound (CollisionRefused c) = Unit {0}
+
+abbrev pub SmallSearch : SearchAnswer → Type 0
+SmallSearch a = (a .flowtime < word) × (a .nodes < word) × (a .bound < word)
 
 abbrev pub SmallCheck : CheckAnswer → Type 0
 SmallCheck (Yes f) = f < word

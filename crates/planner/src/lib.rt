@@ -5,4 +5,5 @@ pub mod check_call;
 pub mod collision_call;
 mod narrowing;
 pub mod path_call;
+pub mod search_call;
 pub mod sheet_calls;

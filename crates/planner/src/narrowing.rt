@@ -4,10 +4,14 @@ use deck::CheckAnswer;
 use deck::Collision;
 use deck::CollisionAnswer;
 use deck::PathAnswer;
+use deck::SearchAnswer;
+use deck::SearchKind;
 ghost use mathlib.Core.Path.{_≡_};
+ghost use mathlib.Core.List.{_++_};
 ghost use Prim.Native.Nat.{_<_};
-ghost use Rattle.deck.specs.Numbers.{pathNumbers, assignmentNumbers, collisionNumbers, checkNumbers};
-ghost use Rattle.planner.specs.Small.{word, SmallPath, SmallAssignment, SmallCollision, SmallFound, SmallCheck};
+ghost use lib.ListN.{take};
+ghost use Rattle.deck.specs.Numbers.{pathNumbers, assignmentNumbers, collisionNumbers, kindNumbers, searchNumbers, checkNumbers};
+ghost use Rattle.planner.specs.Small.{word, SmallPath, SmallAssignment, SmallCollision, SmallFound, SmallSearch, SmallCheck};
 
 pub fn narrow(x: usize) -> u32
     requires { ⌜ x < word ⌝ }
@@ -93,4 +97,42 @@ pub fn collision_numbers(a: CollisionAnswer) -> [u32; 8]
         CollisionAnswer::NoCollision => [0; 8],
         CollisionAnswer::Refused(c) => [wide(c), 0, 0, 0, 0, 0, 0, 0],
     }
+}
+
+fn kind_numbers(kind: SearchKind) -> [u32; 2]
+    ensures { λ r. ⌜ r ≡ kindNumbers kind ⌝ }
+{
+    match kind {
+        SearchKind::Plan => [0, 0],
+        SearchKind::NoPlan => [0, 1],
+        SearchKind::Spent => [0, 2],
+        SearchKind::Refused(c) => [wide(c), 3],
+    }
+}
+
+// The task list behind the first five numbers.
+fn with_tasks(head: [u32; 17], tasks: [u8; 12]) -> [u32; 17]
+    ensures { λ r. ⌜ r ≡ take 5 head ++ tasks ⌝ }
+{
+    let mut r = head;
+    for k in 0..12usize {
+        r[5 + k] = wide(tasks[k]);
+    }
+    r
+}
+
+pub fn search_numbers(a: SearchAnswer) -> [u32; 17]
+    requires { ⌜ SmallSearch a ⌝ }
+    ensures { λ r. ⌜ r ≡ searchNumbers a ⌝ }
+{
+    let kind = a.kind;
+    let tasks = a.tasks;
+    let first = kind_numbers(kind);
+    let mut head = [0u32; 17];
+    head[0] = first[0];
+    head[1] = first[1];
+    head[2] = narrow(a.flowtime);
+    head[3] = narrow(a.nodes);
+    head[4] = narrow(a.bound);
+    with_tasks(head, tasks)
 }
