@@ -7,7 +7,7 @@
  * - No call keeps a pointer, allocates, blocks, or reads or writes anything but what is lent to it. Calls on different buffers
  *   may run at the same time.
  * - Every input is answered: bad bytes, lengths and numbers get a cause. The first number of an answer is the cause, 0 where the
- *   call is accepted; on a cause the other numbers are 0.
+ *   call is accepted; on a cause the other numbers are 0, but for the search's kind, 3, and its tasks, 255.
  * - A refused call writes its numbers, and the three lists of the least assignment, and nothing else.
  *
  * Sheets: bytes as document 01 says. m carriers and tasks, horizon H, places y * w + x. A path lists H + 1 places.
@@ -71,6 +71,18 @@ void planner_least_assignment(uint8_t m, const uint16_t *table, size_t table_len
  * numbers[8]: the cause; 1 if there is a collision; its kind (0 place, 1 move); t; i; j; i's place at t; of a move, i's place at
  *       t + 1, else 0. */
 void planner_first_collision(uint8_t m, uint8_t h, const uint16_t *paths, size_t paths_len, uint32_t *numbers);
+
+/* The search for a plan of least flowtime: constraints on colliding pairs, and the assignments in their order; the cheapest open
+ * node is taken first. Causes 1 to 7, 10, 11.
+ * work: planner_workspace(sheet) words or more. What it holds before changes nothing; what it holds after an accepted call is
+ *       free. A refused call leaves it as it was.
+ * out: m * (H + 1) words or more. The paths of a plan are the first m * (H + 1), carrier by carrier; the other words stay. All
+ *       stay without a plan.
+ * numbers[17]: the cause; the kind (0 a plan of least flowtime, 1 there is no plan, 2 the node limit is spent, 3 refused); the
+ *       flowtime, 0 without a plan; the nodes made; the bound: of a plan its flowtime, of kind 2 a number that no plan's flowtime
+ *       is below, else 0; then the task of each of 12 carriers, 255 from m on, and 255 throughout without a plan. */
+void planner_search(const uint8_t *sheet, size_t sheet_len, uint32_t *work, size_t work_len, uint16_t *out, size_t out_len,
+                    uint32_t *numbers);
 
 /* Whether the tasks and paths are a plan for the sheet. Causes 1 to 7, 11.
  * tasks[12]: the task of each carrier, 255 from m on. paths: m * (H + 1) words, carrier by carrier.

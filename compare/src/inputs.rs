@@ -72,6 +72,28 @@ impl Map {
     }
 }
 
+/// An accepted sheet of any size: sides, carriers, goals and horizon anywhere in their ranges, small ones more often.
+pub fn any(limit: usize, rng: &mut Rng) -> Vec<u8> {
+    let most = rng.pick(&[3, 5, 8, 14, 32]);
+    let (w, h) = (rng.range(1, most), rng.range(1, most));
+    let blocked = rng.pick(&[0, 0, 5, 15, 30, 50]);
+    let mut grid: Vec<u8> = (0..w * h).map(|_| u8::from(rng.chance(blocked, 100))).collect();
+    grid[rng.range(0, w * h - 1)] = 0;
+    let free: Vec<usize> = (0..w * h).filter(|&place| grid[place] == 0).collect();
+    let most = rng.pick(&[3, 6, 12]);
+    let count = rng.range(1, free.len().min(most));
+    let goals = rng.pick(&[1, 2, 3, 8]);
+    let most = rng.pick(&[4, 12, 40, 100, 255]);
+    let horizon = rng.range(0, most);
+    let starts = rng.sample(&free, count);
+    let tasks = rng
+        .sample(&free, count)
+        .into_iter()
+        .map(|last| (1..rng.range(1, goals)).map(|_| rng.pick(&free)).chain([last]).collect())
+        .collect();
+    Draft { w, h, horizon, limit, grid, starts, tasks }.bytes()
+}
+
 /// A sheet with another node limit.
 pub fn with_limit(sheet: &[u8], limit: u16) -> Vec<u8> {
     let mut bytes = sheet.to_vec();

@@ -39,7 +39,6 @@ mod exported {
             paths_len: usize,
             numbers: *mut u32,
         );
-        #[cfg(feature = "search")]
         pub fn planner_search(
             sheet: *const u8,
             sheet_len: usize,
@@ -155,7 +154,6 @@ pub fn check_plan(sheet: &[u8], tasks: &[u8; 12], paths: &[u16]) -> [u32; 3] {
 }
 
 /// Cause, kind (0 plan, 1 none, 2 spent, 3 refused), flowtime, nodes, bound, and the task list of 12.
-#[cfg(feature = "search")]
 pub fn search(sheet: &[u8], work: &mut [u32], out: &mut [u16]) -> [u32; 17] {
     let mut numbers = [u32::from(OLD); 17];
     unsafe {

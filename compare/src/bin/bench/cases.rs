@@ -2,9 +2,9 @@
 
 use std::hint::black_box;
 
-use compare::inputs::{records_against, table, Map};
+use compare::inputs::{records_against, table, Map, PLENTY};
 use deckref::assign;
-use deckref::gen::Rng;
+use deckref::gen::{self, Rng};
 use deckref::path;
 use deckref::sheet::{read_sheet, Carrier, Task};
 
@@ -90,15 +90,8 @@ fn assignments(most: usize, barred: usize) -> Case {
     }
 }
 
-#[cfg(not(feature = "search"))]
-fn searches() -> Vec<Named> {
-    Vec::new()
-}
-
 /// Whole searches: the other author's kinds of sheet, and the maps of the literature.
-#[cfg(feature = "search")]
 fn searches() -> Vec<Named> {
-    use deckref::gen;
     let kinds = [("medium", 12), ("full", 8), ("max", 4)].into_iter().map(|(kind, count)| {
         let sheets = move || (0..count).map(|seed| gen::sheet(kind, seed).expect("a known kind")).collect();
         named(&format!("search {kind}"), move || whole(sheets()))
@@ -117,9 +110,7 @@ fn searches() -> Vec<Named> {
     kinds.chain(maps).collect()
 }
 
-#[cfg(feature = "search")]
 fn whole(sheets: Vec<Vec<u8>>) -> Case {
-    use compare::inputs::PLENTY;
     let same = sheets.clone();
     let (mut work, mut out) = (vec![0; PLENTY], vec![0; 12 * 256]);
     let (mut other_work, mut other_out) = (work.clone(), out.clone());

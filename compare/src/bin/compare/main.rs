@@ -5,7 +5,6 @@ mod assignments;
 mod collisions;
 mod paths;
 mod plans;
-#[cfg(feature = "search")]
 mod searches;
 mod sheets;
 
@@ -68,7 +67,6 @@ const PARTS: &[Part] = &[
     ("least assignments", assignments::run),
     ("first collisions", collisions::run),
     ("plan checks", plans::run),
-    #[cfg(feature = "search")]
     ("searches", searches::run),
 ];
 

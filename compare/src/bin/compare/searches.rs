@@ -1,7 +1,7 @@
 //! Whole searches: every kind of sheet, several node limits, a workspace that holds anything, buffers that are exact, larger and
 //! one word short; and on tiny sheets the least flowtime of any plan, by another method.
 
-use compare::inputs::{junk, with_limit, Map, PLENTY};
+use compare::inputs::{any, junk, with_limit, Map, PLENTY};
 use compare::search;
 use deckref::gen::{self, Rng};
 use deckref::naive;
@@ -26,13 +26,13 @@ pub fn run(share: &Share) -> Tally {
     let mut rng = Rng::new(50 + share.number);
     let mut lent = Lent { work: vec![0; PLENTY + PAST], out: Vec::new() };
     junk(&mut lent.work, &mut rng);
-    for seed in share.seeds(400) {
+    for seed in share.seeds(1500) {
         for kind in gen::KINDS {
             let most = match kind {
-                "max" => 3,
-                "full" => 8,
-                "medium" => 30,
-                _ => 400,
+                "max" => 6,
+                "full" => 24,
+                "medium" => 200,
+                _ => 1500,
             };
             if seed >= most {
                 continue;
@@ -51,6 +51,16 @@ pub fn run(share: &Share) -> Tally {
                 one(&mut tally, &mut lent, &with_limit(&bytes, 4096), 1, 1, &|| name(4096));
             }
         }
+    }
+    for seed in share.seeds(20_000) {
+        let mut rng = Rng::new(7000 + seed);
+        let most = rng.pick(&[4, 20, 100, 100, 500, 4096]);
+        let limit = rng.range(1, most);
+        let bytes = any(limit, &mut rng);
+        if seed % 50 < share.of {
+            junk(&mut lent.work, &mut rng);
+        }
+        one(&mut tally, &mut lent, &bytes, 0, 0, &|| format!("any {seed}, limit {limit}"));
     }
     for seed in share.seeds(6) {
         for (side, blocked, horizon) in [(20, 30, 100), (32, 10, 160), (32, 0, 160)] {
