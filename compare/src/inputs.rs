@@ -94,6 +94,20 @@ pub fn any(limit: usize, rng: &mut Rng) -> Vec<u8> {
     Draft { w, h, horizon, limit, grid, starts, tasks }.bytes()
 }
 
+/// A sheet without a plan: two carriers in a stretch of two places cannot pass each other. All others are free, so that there are
+/// roots without end.
+pub fn stuck(side: usize, horizon: usize, rng: &mut Rng) -> Vec<u8> {
+    let mut grid = vec![0; side * side];
+    for place in [2, side, side + 1] {
+        grid[place] = 1;
+    }
+    let free: Vec<usize> = (2..grid.len()).filter(|&place| grid[place] == 0).collect();
+    let starts = [0, 1].into_iter().chain(rng.sample(&free, 10)).collect();
+    let last = rng.sample(&free, 10).into_iter().map(|place| vec![place]);
+    let tasks = [vec![1, 0], vec![0, 1]].into_iter().chain(last).collect();
+    Draft { w: side, h: side, horizon, limit: 4096, grid, starts, tasks }.bytes()
+}
+
 /// A sheet with another node limit.
 pub fn with_limit(sheet: &[u8], limit: u16) -> Vec<u8> {
     let mut bytes = sheet.to_vec();

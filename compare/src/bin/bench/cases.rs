@@ -63,6 +63,7 @@ fn paths(map: Map, records: usize) -> Case {
     let (mut other_work, mut other_out) = (work.clone(), out.clone());
     Case {
         inputs: inputs.len(),
+        varied: false,
         ours: Box::new(move |k| {
             let Input { sheet, carrier, task, records } = &inputs[k];
             black_box(compare::least_path(sheet, *carrier, *task, &mut work, &mut out, records));
@@ -81,6 +82,7 @@ fn assignments(most: usize, barred: usize) -> Case {
     let same = tables.clone();
     Case {
         inputs: tables.len(),
+        varied: false,
         ours: Box::new(move |k| {
             black_box(compare::least_assignment(12, &tables[k]));
         }),
@@ -92,7 +94,7 @@ fn assignments(most: usize, barred: usize) -> Case {
 
 /// Whole searches: the other author's kinds of sheet, and the maps of the literature.
 fn searches() -> Vec<Named> {
-    let kinds = [("medium", 12), ("full", 8), ("max", 4)].into_iter().map(|(kind, count)| {
+    let kinds = [("medium", 24), ("full", 12), ("max", 8)].into_iter().map(|(kind, count)| {
         let sheets = move || (0..count).map(|seed| gen::sheet(kind, seed).expect("a known kind")).collect();
         named(&format!("search {kind}"), move || whole(sheets()))
     });
@@ -102,7 +104,7 @@ fn searches() -> Vec<Named> {
             let sheets = move || {
                 let mut rng = Rng::new(13);
                 let map = |carriers| Map { side, blocked, carriers, goals: 2, horizon, limit };
-                (0..8).map(|k| map(10 + k % 3).sheet(&mut rng)).collect()
+                (0..12).map(|k| map(10 + k % 3).sheet(&mut rng)).collect()
             };
             named(&format!("search {name} K 2, limit {limit}"), move || whole(sheets()))
         })
@@ -116,6 +118,7 @@ fn whole(sheets: Vec<Vec<u8>>) -> Case {
     let (mut other_work, mut other_out) = (work.clone(), out.clone());
     Case {
         inputs: sheets.len(),
+        varied: true,
         ours: Box::new(move |k| {
             black_box(compare::search(&sheets[k], &mut work, &mut out));
         }),

@@ -1,16 +1,20 @@
 //! Times the exported calls beside another author's planner: same inputs, same run, both built for release. For each case the
 //! median time of a call of either, and the median, least and greatest of the ratios of the rounds. A ratio below 1 says that
 //! this planner is faster. Buffers are lent as the call before left them. Times are the thread's processor times, so that what
-//! else the machine does weighs less. An argument picks the cases whose name has it.
+//! else the machine does weighs less. Of searches, whose inputs differ much, also the median, least and greatest of the ratios of the
+//! inputs. An argument picks the cases whose name has it; `growth` picks what a node of a search costs.
 
 mod cases;
 mod clock;
+mod growth;
 
 use std::time::Duration;
 
 /// One call of each planner on the input of a number.
 pub struct Case {
     pub inputs: usize,
+    /// The inputs' times differ much.
+    pub varied: bool,
     pub ours: Box<dyn FnMut(usize)>,
     pub theirs: Box<dyn FnMut(usize)>,
 }
@@ -25,6 +29,9 @@ fn main() {
     println!("{:<40} {:>10} {:>10}  {:>6}", "case", "ours µs", "other µs", "ratio");
     for (name, case) in cases::all().into_iter().filter(|(name, _)| name.contains(&wanted)) {
         report(&name, case());
+    }
+    if wanted.is_empty() || wanted == "growth" {
+        growth::print();
     }
 }
 
@@ -51,13 +58,40 @@ fn report(name: &str, mut case: Case) {
     let theirs = per_call(rounds.iter().map(|round| round.1).collect());
     rounds.sort_by(|a, b| (a.0 / a.1).total_cmp(&(b.0 / b.1)));
     let ratio = |round: &(f64, f64)| round.0 / round.1;
-    println!(
+    print!(
         "{:<40} {ours:>10.2} {theirs:>10.2}  {:>6.3} ({:.3} to {:.3})",
         name,
         ratio(&rounds[ROUNDS / 2]),
         ratio(&rounds[0]),
         ratio(&rounds[ROUNDS - 1])
     );
+    if case.varied {
+        let ratios = spread(&mut case);
+        print!(
+            "  inputs {:.3} ({:.3} to {:.3})",
+            ratios[ratios.len() / 2],
+            ratios[0],
+            ratios[ratios.len() - 1]
+        );
+    }
+    println!();
+}
+
+/// The ratios of the inputs, in order.
+fn spread(case: &mut Case) -> Vec<f64> {
+    const CALLS: usize = 5;
+    let ratio = |input: usize| {
+        let timed = |call: &mut dyn FnMut(usize)| {
+            let begun = clock::now();
+            call(input);
+            (clock::now() - begun).as_secs_f64()
+        };
+        let ours = median((0..CALLS).map(|_| timed(&mut case.ours)).collect());
+        ours / median((0..CALLS).map(|_| timed(&mut case.theirs)).collect())
+    };
+    let mut ratios: Vec<f64> = (0..case.inputs).map(ratio).collect();
+    ratios.sort_by(f64::total_cmp);
+    ratios
 }
 
 fn side(call: &mut dyn FnMut(usize), inputs: usize, repeats: usize) -> Duration {

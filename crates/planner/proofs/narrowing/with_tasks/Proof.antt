@@ -44,7 +44,7 @@ loop-again c =
     let args = c .before .before .before .args in
     let loop = c .before .before .loop in (
       omega arith,
-      length-set (loop .r) (5 + loop .k) _ ∙ loop .inv .1,
+      length-set (loop .r) _ _ ∙ loop .inv .1,
       tasks-more (loop .r) (args .head) (args .t2) (loop .k) _ (omega arith) (omega arith) (c .wide .ensures) (loop .inv .2),
     )
 
