@@ -1,6 +1,6 @@
 -- What the calls of this crate answer: weights of entries, a part's first assignment with its sum, the order of two of these.
 -- Assumes nothing.
-use Prim.Native.Nat.{ℕ, zero, suc, _≤_, _<_}
+use Prim.Native.Nat.{ℕ, zero, suc, _+_, _≤_, _<_}
 use mathlib.Core.Path.{_≡_}
 use mathlib.Core.Bool.{Bool, true, false, cond}
 use mathlib.Core.List.{List}
@@ -9,12 +9,13 @@ use lib.ListN.{getD, replicate}
 use lib.IntN.{ℤ, pos, negℤ, _+ℤ_}
 use lib.Signed.{mag}
 use lib.Dec.{ltb}
-use Rattle.deck.specs.Assignments.{sumOf, leastAssignment}
+use Rattle.deck.specs.Assignments.{entryAt, sumOf, leastAssignment}
 use Rattle.deck.specs.Calls.{taskList, noTasks, assignmentKind, assignmentTasks, PricesOf}
 use Rattle.deck.specs.declared.AssignmentKind.{AssignmentKind}
 use Rattle.deck.specs.declared.AssignmentAnswer.{AssignmentAnswer}
 use Rattle.meaning.specs.Meaning.{_at_}
-use Rattle.prices.specs.Weights.{heavy}
+use Rattle.prices.specs.Weights.{weigh}
+use Rattle.prices.specs.Square.{cell}
 use Rattle.assignment.specs.declared.order.Candidate.{Candidate}
 
 -- an assignment with its sum and the list of 12, or none
@@ -41,12 +42,29 @@ pub record Answered (m : ℕ) (table : List ℕ) (r : AssignmentAnswer) : Type 0
 abbrev pub priceOf : Bool → ℕ → ℤ
 priceOf negate x = cond negate (negℤ (pos x)) (pos x)
 
+-- no price is above this
+abbrev pub dearest : ℕ
+dearest = 4000000
+
+-- prices u of the rows and negated prices v of the columns for the assignment a: feasible on the weights and tight on its entries
+pub record Serves (m : ℕ) (table a u v : List ℕ) : Type 0 where
+  pub feasible : (i j : ℕ) → i < m → j < m → u at i ≤ weigh (entryAt m table i j) + v at j
+  pub tight : (i : ℕ) → i < m → u at i ≡ entryAt m table i (a at i) + v at (a at i)
+  pub low : (k : ℕ) → k < m → (u at k ≤ dearest) × (v at k ≤ dearest)
+  pub words : (i : ℕ) → i < m → entryAt m table i (a at i) ≤ 65535
+
+-- the price x of row i is tight on its task
+pub record Tightly (t tasks v : List ℕ) (i x : ℕ) : Type 0 where
+  pub tight : x ≡ weigh (cell t i (tasks at i)) + v at (tasks at i)
+  pub word : cell t i (tasks at i) ≤ 65535
+  pub low : x ≤ dearest
+
 -- the entry e i that row i has chosen is its price plus that of its column
 pub record Chosen (m : ℕ) (rows columns : List ℤ) (tasks : List ℕ) (e : ℕ → ℕ) : Type 0 where
   pub low : (i : ℕ) → i < m → tasks at i < m
   pub priced : (i : ℕ) → i < m → (getD rows i (pos 0) +ℤ getD columns (tasks at i) (pos 0)) ≡ pos (e i)
   pub word : (i : ℕ) → i < m → e i ≤ 65535
-  pub small : (k : ℕ) → k < m → (mag (getD rows k (pos 0)) ≤ heavy) × (mag (getD columns k (pos 0)) ≤ heavy)
+  pub small : (k : ℕ) → k < m → (mag (getD rows k (pos 0)) ≤ dearest) × (mag (getD columns k (pos 0)) ≤ dearest)
 
 -- the answer without an assignment
 abbrev pub withoutTasks : AssignmentKind → AssignmentAnswer

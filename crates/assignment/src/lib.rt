@@ -36,10 +36,12 @@ pub fn least_assignment(m: u8, table: &[u16]) -> AssignmentAnswer
         return without(AssignmentKind::Refused(12));
     }
     let t = tables::filled(n, table);
-    let first = order::first(n, &t);
+    let f = order::first_priced(n, &t);
+    let first = f.candidate;
     if !first.found {
         return without(AssignmentKind::NoAssignment);
     }
     let tasks = first.tasks;
-    price::priced(n, &t, tasks)
+    let columns = f.columns;
+    price::priced(n, &t, tasks, &columns)
 }

@@ -27,6 +27,12 @@ pub struct Candidate {
     pub tasks: [u8; 12],
 }
 
+// The same with the negated prices of the columns, by merged weights.
+pub struct PricedCandidate {
+    pub candidate: Candidate,
+    pub columns: [u64; 12],
+}
+
 // The sum of the weights of the entries that an assignment uses.
 fn total(m: usize, t: &[u16; 144], task: &[usize; 12]) -> u64
     requires { ⌜ (m ≤ 12) × ((i : ℕ) → i < m → now task at i < 12) ⌝ }
@@ -52,10 +58,10 @@ fn listed(m: usize, task: &[usize; 12]) -> [u8; 12]
     tasks
 }
 
-// The first assignment in order of the table of which t is the working copy.
-pub fn first(m: usize, t: &[u16; 144]) -> Candidate
+// The first assignment in order of the table of which t is the working copy, with prices.
+pub fn first_priced(m: usize, t: &[u16; 144]) -> PricedCandidate
     requires { ⌜ m ≤ 12 ⌝ }
-    ensures { λ r. ⌜ r ≡ candidateFor m (copied m (now (t .entry))) (leastAssignment m (copied m (now (t .entry)))) ⌝ }
+    ensures { λ r. ⌜ r .candidate ≡ candidateFor m (copied m (now (t .entry))) (leastAssignment m (copied m (now (t .entry)))) ⌝ }
 {
     let w = weights(m, t, true);
     let mut u = [0u64; 12];
@@ -65,17 +71,33 @@ pub fn first(m: usize, t: &[u16; 144]) -> Candidate
     hungarian::solve(m, &w, &mut u, &mut v, &mut task, &mut carrier);
     let sum = total(m, t, &task);
     if HEAVY <= sum {
-        return Candidate {
-            found: false,
-            sum: 0,
-            tasks: [255; 12],
+        return PricedCandidate {
+            candidate: Candidate {
+                found: false,
+                sum: 0,
+                tasks: [255; 12],
+            },
+            columns: v,
         };
     }
-    Candidate {
-        found: true,
-        sum: (sum % 4294967296) as u32,
-        tasks: listed(m, &task),
+    PricedCandidate {
+        candidate: Candidate {
+            found: true,
+            sum: (sum % 4294967296) as u32,
+            tasks: listed(m, &task),
+        },
+        columns: v,
     }
+}
+
+// The first assignment in order of the table of which t is the working copy.
+pub fn first(m: usize, t: &[u16; 144]) -> Candidate
+    requires { ⌜ m ≤ 12 ⌝ }
+    ensures { λ r. ⌜ r ≡ candidateFor m (copied m (now (t .entry))) (leastAssignment m (copied m (now (t .entry)))) ⌝ }
+{
+    let f = first_priced(m, t);
+    let c = f.candidate;
+    c
 }
 
 // The closed tasks of a part in its slot j, before the task of carrier j is closed too: only where j is the part's own row.

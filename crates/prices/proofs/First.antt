@@ -3,20 +3,22 @@
 use Prim.Native.Nat.{ℕ, zero, suc, _+_, _-_, _*_, _≤_, _<_, suc-le-suc, zero-le}
 use mathlib.Core.Path.{_≡_, refl, sym, ap, ap₂, subst, _∙_}
 use mathlib.Core.Logic.{_⊎_, inl, inr, ⊎-elim, _≢_}
+use mathlib.Core.Bool.{Bool, cond}
 use mathlib.Core.List.{List, [], _∷_, map, List·Memᴰ as Mem, List·Memᴰ·head as here, List·Memᴰ·tail as there, List·Memᴰ·not-nil as not-nil, List·Memᴰ·cases-cons as cases-cons}
 use mathlib.Core.Option.{Option, none, some}
 use native.Mathlib.Nat.{suc-inj, eq-or-lt-of-le, le-of-suc-le-suc, mul-le-mul-right, suc-mul}
 use native.Mathlib.Omega.{arith}
 use lib.ListN.{length}
-use borrow.Author.Tests.{eq-eqb, ne-eqb}
+use lib.Dec.{ltb}
+use borrow.Author.Tests.{eq-eqb, ne-eqb, lt-ltb, le-ltb}
 use Rattle.deck.specs.Lists.{below, countFrom, sum}
 use Rattle.deck.specs.Assignments.{barred, entryAt, sumOf, leastAssignment}
 use Rattle.meaning.specs.Meaning.{_at_, Assignment, Unbarred, StrictlyBefore, Less}
 use Rattle.meaning.proofs.Lists.{mem-below, length-countFrom}
 use Rattle.meaning.proofs.Assignments.{Least, least-assignment, sum-at}
 use Rattle.prices.specs.Matching.{cost, AtMost}
-use Rattle.prices.specs.Weights.{heavy, weigh, place, rank, merged, weights, mergedWeights}
-use Rattle.prices.proofs.Sums.{sum-plus, sum-same, sum-times}
+use Rattle.prices.specs.Weights.{heavy, weigh, place, rank, placeOf, merged, weights, mergedWeights}
+use Rattle.prices.proofs.Sums.{sum-plus, sum-same, sum-times, map-at, assigned-sum}
 use Rattle.prices.proofs.Growth.{lower}
 
 -- THE ORDER IS STRICT
@@ -78,55 +80,72 @@ Digits a = (i : ℕ) → i < length a → a at i < 12
 tail-digits : (x : ℕ) (a : List ℕ) → Digits (x ∷ a) → Digits a
 tail-digits x a h i l = h (suc i) (suc-le-suc l)
 
-rank-low : (n : ℕ) (a : List ℕ) → length a ≤ n → Digits a → rank n a < place n
+rank-low : (n : ℕ) (a : List ℕ) → Digits a → rank n a < place n
 unfolding rank place
-rank-low zero [] l h = suc-le-suc zero-le
-rank-low (suc n) [] l h = omega (arith, rank-low n [] zero-le h)
-rank-low zero (x ∷ a) l h = absurd (omega (arith, l))
-rank-low (suc n) (x ∷ a) l h =
-    omega (arith, rank-low n a (le-of-suc-le-suc l) (tail-digits x a h), mul-le-mul-right (place n) (h 0 (suc-le-suc zero-le)), suc-mul x (place n))
+rank-low zero [] h = suc-le-suc zero-le
+rank-low (suc n) [] h = omega (arith, rank-low n [] h)
+rank-low zero (x ∷ a) h = suc-le-suc zero-le
+rank-low (suc n) (x ∷ a) h =
+    omega (arith, rank-low n a (tail-digits x a h), mul-le-mul-right (place n) (h 0 (suc-le-suc zero-le)), suc-mul x (place n))
 
 -- what is below k does not count against a multiple of k
 whole-parts : (k x y r s : ℕ) → s < k → x * k + r ≤ y * k + s → x ≤ y
 whole-parts k x y r s ls h = ⊎-elim (λ l. absurd (omega (arith, mul-le-mul-right k l, suc-mul y k))) (λ l. l) (lower y x)
 
--- lists of one length are in the order of their numbers
-rank-order : (n : ℕ) (a b : List ℕ) → length a ≡ length b → length a ≤ n → Digits a → Digits b → rank n a ≤ rank n b → (b ≡ a) ⊎ StrictlyBefore a b
+abbrev total : List ℕ → ℕ
+total a = sum (map (λ x. x) a)
+
+-- lists of one length and one sum are in the order of their numbers, of which the last digit may be left out
+rank-order : (n : ℕ) (a b : List ℕ) → length a ≡ length b → length a ≤ suc n → total a ≡ total b → Digits a → Digits b → rank n a ≤ rank n b → (b ≡ a) ⊎ StrictlyBefore a b
 unfolding rank
-rank-order n [] [] e l h k le = inl refl
-rank-order n [] (y ∷ b) e l h k le = absurd (omega (arith, e))
-rank-order n (x ∷ a) [] e l h k le = absurd (omega (arith, e))
-rank-order zero (x ∷ a) (y ∷ b) e l h k le = absurd (omega (arith, l))
-rank-order (suc n) (x ∷ a) (y ∷ b) e l h k le =
+rank-order n [] [] e l s h k le = inl refl
+rank-order n [] (y ∷ b) e l s h k le = absurd (omega (arith, e))
+rank-order n (x ∷ a) [] e l s h k le = absurd (omega (arith, e))
+rank-order zero (x ∷ []) (y ∷ []) e l s h k le = let q : y ≡ x = omega (arith, s) in inl (ap (λ (z : ℕ). z ∷ []) q)
+rank-order zero (x ∷ []) (y ∷ z ∷ b) e l s h k le = absurd (omega (arith, e))
+rank-order zero (x ∷ z ∷ a) (y ∷ b) e l s h k le = absurd (omega (arith, l))
+rank-order (suc n) (x ∷ a) (y ∷ b) e l s h k le =
     go (eq-or-lt-of-le (whole-parts (place n) x y (rank n a) (rank n b) small le))
-    (λ le′. rank-order n a b (suc-inj e) (le-of-suc-le-suc l) (tail-digits x a h) (tail-digits y b k) le′)
+    (λ f le′. rank-order n a b (suc-inj e) (le-of-suc-le-suc l) (omega (arith, s, f)) (tail-digits x a h) (tail-digits y b k) le′)
   where
     small : rank n b < place n
-    small = rank-low n b (omega (arith, e, l)) (tail-digits y b k)
+    small = rank-low n b (tail-digits y b k)
 
     deep : x ≡ y → (b ≡ a) ⊎ StrictlyBefore a b → (y ∷ b ≡ x ∷ a) ⊎ StrictlyBefore (x ∷ a) (y ∷ b)
     deep f (inl g) = inl (ap₂ (λ (z : ℕ) (t : List ℕ). z ∷ t) (sym f) g)
     deep f (inr g) = inr (inr (f, g))
 
-    go : (x ≡ y) ⊎ (x < y) → (rank n a ≤ rank n b → (b ≡ a) ⊎ StrictlyBefore a b) → (y ∷ b ≡ x ∷ a) ⊎ StrictlyBefore (x ∷ a) (y ∷ b)
+    go : (x ≡ y) ⊎ (x < y) → (x ≡ y → rank n a ≤ rank n b → (b ≡ a) ⊎ StrictlyBefore a b) → (y ∷ b ≡ x ∷ a) ⊎ StrictlyBefore (x ∷ a) (y ∷ b)
     go (inr f) again = inr (inl f)
-    go (inl f) again = deep f (again (omega (arith, le, ap (λ (z : ℕ). z * place n) f)))
+    go (inl f) again = deep f (again f (omega (arith, le, ap (λ (z : ℕ). z * place n) f)))
 
 -- the digits of a list by index
-rank-sum : (n k : ℕ) (a : List ℕ) (f : ℕ → ℕ) → length a ≤ n → ((i : ℕ) → i < length a → f (k + i) ≡ (a at i) * place (n - suc i))
+rank-sum : (n k : ℕ) (a : List ℕ) (f : ℕ → ℕ) → length a ≤ suc n → ((i : ℕ) → i < length a → f (k + i) ≡ (a at i) * cond (ltb i n) (place (n - suc i)) 0)
     → sum (map f (countFrom k (length a))) ≡ rank n a
 unfolding rank
 rank-sum n k [] f l h = refl
-rank-sum zero k (x ∷ a) f l h = absurd (omega (arith, l))
+rank-sum zero k (x ∷ []) f l h =
+    let z : k + 0 ≡ k = omega arith in
+    let first : f k ≡ x * 0 = subst (λ (y : ℕ). f y ≡ x * 0) z (h 0 (suc-le-suc zero-le)) in
+    omega (arith, first)
+rank-sum zero k (x ∷ y ∷ a) f l h = absurd (omega (arith, l))
 rank-sum (suc n) k (x ∷ a) f l h =
-    let first : f k ≡ x * place n = subst (λ (z : ℕ). f z ≡ x * place n) (omega arith) (subst (λ (z : ℕ). f (k + 0) ≡ x * place z) (omega arith) (h 0 (suc-le-suc zero-le))) in
+    let z : k + 0 ≡ k = omega arith in
+    let q : suc n - 1 ≡ n = omega arith in
+    let first : f k ≡ x * place n = subst (λ (y : ℕ). f y ≡ x * place n) z
+    (subst (λ (y : ℕ). f (k + 0) ≡ x * place y) q
+    (subst (λ (y : Bool). f (k + 0) ≡ x * cond y (place (suc n - 1)) 0) (lt-ltb 0 (suc n) (suc-le-suc zero-le)) (h 0 (suc-le-suc zero-le)))) in
     omega (arith, first, rank-sum n (suc k) a f (le-of-suc-le-suc l) later)
   where
-    later : (i : ℕ) → i < length a → f (suc k + i) ≡ (a at i) * place (n - suc i)
+    later : (i : ℕ) → i < length a → f (suc k + i) ≡ (a at i) * cond (ltb i n) (place (n - suc i)) 0
     later i li =
         let p : k + suc i ≡ suc k + i = omega arith in
         let q : suc n - suc (suc i) ≡ n - suc i = omega arith in
-        subst (λ (z : ℕ). f z ≡ (a at i) * place (n - suc i)) p (subst (λ (z : ℕ). f (k + suc i) ≡ (a at i) * place z) q (h (suc i) (suc-le-suc li)))
+        let r : ltb (suc i) (suc n) ≡ ltb i n = ⊎-elim
+        (λ g. lt-ltb (suc i) (suc n) (suc-le-suc g) ∙ sym (lt-ltb i n g)) (λ g. le-ltb (suc i) (suc n) (suc-le-suc g) ∙ sym (le-ltb i n g)) (lower i n) in
+        subst (λ (z : ℕ). f z ≡ (a at i) * cond (ltb i n) (place (n - suc i)) 0) p
+        (subst (λ (z : ℕ). f (k + suc i) ≡ (a at i) * cond (ltb i n) (place z) 0) q
+        (subst (λ (z : Bool). f (k + suc i) ≡ (a at i) * cond z (place (suc n - suc (suc i))) 0) r (h (suc i) (suc-le-suc li))))
 
 -- WEIGHTS
 pub weigh-open : (e : ℕ) → e ≢ barred → weigh e ≡ e
@@ -172,34 +191,42 @@ module _ (m : ℕ) (small : m ≤ 12) (table : List ℕ) (words : AtMost m (entr
   digits a h i li = omega (arith, h .tasks i (omega (arith, h .as-many)), small)
 
   -- weight above, list below
-  merged-cost : (a : List ℕ) → Assignment m a → cost m (mergedWeights m table) a ≡ cost m (weights m table) a * place 12 + rank 12 a
-  unfolding merged
+  merged-cost : (a : List ℕ) → Assignment m a → cost m (mergedWeights m table) a ≡ cost m (weights m table) a * place 12 + rank 11 a
+  unfolding merged placeOf
   merged-cost a h =
-      sum-plus (λ i. weights m table i (a at i) * place 12) (λ i. (a at i) * place (11 - i)) (below m)
+      sum-plus (λ i. weights m table i (a at i) * place 12) (λ i. (a at i) * placeOf i) (below m)
       ∙ ap₂ (λ (x y : ℕ). x + y) (sum-times (λ i. weights m table i (a at i)) (place 12) (below m)) low
     where
-      low : sum (map (λ i. (a at i) * place (11 - i)) (below m)) ≡ rank 12 a
-      low = subst (λ (n : ℕ). sum (map (λ i. (a at i) * place (11 - i)) (countFrom 0 n)) ≡ rank 12 a) (h .as-many)
-          (rank-sum 12 0 a (λ i. (a at i) * place (11 - i)) (omega (arith, h .as-many)) (λ i li. same i))
+      low : sum (map (λ i. (a at i) * placeOf i) (below m)) ≡ rank 11 a
+      low = subst (λ (n : ℕ). sum (map (λ i. (a at i) * placeOf i) (countFrom 0 n)) ≡ rank 11 a) (h .as-many)
+          (rank-sum 11 0 a (λ i. (a at i) * placeOf i) (omega (arith, h .as-many)) (λ i li. same i))
         where
-          same : (i : ℕ) → (a at (0 + i)) * place (11 - (0 + i)) ≡ (a at i) * place (12 - suc i)
+          same : (i : ℕ) → (a at (0 + i)) * placeOf (0 + i) ≡ (a at i) * cond (ltb i 11) (place (11 - suc i)) 0
           same i =
               let p : 0 + i ≡ i = omega arith in
-              let q : 11 - i ≡ 12 - suc i = omega arith in
-              rw p (ap (λ (z : ℕ). (a at i) * place z) q)
+              let q : 10 - i ≡ 11 - suc i = omega arith in
+              rw p (ap (λ (z : ℕ). (a at i) * cond (ltb i 11) (place z) 0) q)
+
+  -- each task is there once
+  tasks-sum : (a : List ℕ) → Assignment m a → total a ≡ total (below m)
+  tasks-sum a h = sym (ap sum (map-at (λ x. x) a m (h .as-many))) ∙ assigned-sum (λ x. x) m a h
 
   module _ (a : List ℕ) (h : Assignment m a)
       (least : (b : List ℕ) → Assignment m b → cost m (mergedWeights m table) a ≤ cost m (mergedWeights m table) b) where
     both : (b : List ℕ) → Assignment m b
-        → cost m (weights m table) a * place 12 + rank 12 a ≤ cost m (weights m table) b * place 12 + rank 12 b
+        → cost m (weights m table) a * place 12 + rank 11 a ≤ cost m (weights m table) b * place 12 + rank 11 b
     both b k = rw (← merged-cost a h, ← merged-cost b k) (least b k)
 
+    rank-small : (b : List ℕ) → Assignment m b → rank 11 b < place 12
+    unfolding place
+    rank-small b k = omega (arith, rank-low 11 b (digits b k))
+
     pub weight-least : (b : List ℕ) → Assignment m b → cost m (weights m table) a ≤ cost m (weights m table) b
-    weight-least b k = whole-parts (place 12) (cost m (weights m table) a) (cost m (weights m table) b) (rank 12 a) (rank 12 b) (rank-low 12 b (omega (arith, k .as-many)) (digits b k)) (both b k)
+    weight-least b k = whole-parts (place 12) (cost m (weights m table) a) (cost m (weights m table) b) (rank 11 a) (rank 11 b) (rank-small b k) (both b k)
 
     list-first : (b : List ℕ) → Assignment m b → cost m (weights m table) a ≡ cost m (weights m table) b → (b ≡ a) ⊎ StrictlyBefore a b
     list-first b k e =
-        rank-order 12 a b (h .as-many ∙ sym (k .as-many)) (omega (arith, h .as-many)) (digits a h) (digits b k)
+        rank-order 11 a b (h .as-many ∙ sym (k .as-many)) (omega (arith, h .as-many)) (tasks-sum a h ∙ sym (tasks-sum b k)) (digits a h) (digits b k)
         (omega (arith, both b k, ap (λ (z : ℕ). z * place 12) e))
 
     pub merged-none : heavy ≤ cost m (weights m table) a → leastAssignment m table ≡ none

@@ -5,7 +5,7 @@ use deck::Task;
 ghost use mathlib.Core.Path.{_≡_};
 ghost use Prim.Native.Nat.{ℕ, _-_, _*_, _≤_, _<_};
 ghost use lib.ListN.{length};
-ghost use Rattle.prices.specs.Weights.{heavy, weigh as weighOf, place};
+ghost use Rattle.prices.specs.Weights.{heavy, weigh as weighOf, placeOf};
 ghost use Rattle.prices.specs.Square.{cell, copied};
 ghost use Rattle.partition.specs.Parts.{partEntry, partTable};
 ghost use Rattle.tables.specs.Copies.{copyEntry, partAt, weightOf, Weighed};
@@ -97,9 +97,9 @@ pub fn part(
 // Heavier than any sum of 12 entries that are not barred.
 pub const HEAVY: u64 = 786409;
 
-// 12 to the powers 11 to 0: the places of the carriers' task numbers in an assignment that is read as a number to the base 12.
+// 12 to the powers 10 to 0, and 0: the places of the carriers' task numbers in an assignment that is read as a number to the base
+// 12. The last carrier's task is known by the others'.
 const PLACES: [u64; 12] = [
-    743008370688,
     61917364224,
     5159780352,
     429981696,
@@ -111,6 +111,7 @@ const PLACES: [u64; 12] = [
     144,
     12,
     1,
+    0,
 ];
 
 pub fn weigh(x: u16) -> u64
@@ -122,7 +123,7 @@ pub fn weigh(x: u16) -> u64
 // Task j as the digit of carrier i.
 fn digit(i: usize, j: usize) -> u64
     requires { ⌜ (i < 12) × (j < 12) ⌝ }
-    ensures { λ r. ⌜ (r ≡ j * place (11 - i)) × (r ≤ 8173092077568) ⌝ }
+    ensures { λ r. ⌜ (r ≡ j * placeOf i) × (r ≤ 681091006464) ⌝ }
 {
     (j as u64) * PLACES[i]
 }

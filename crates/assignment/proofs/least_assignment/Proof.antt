@@ -54,8 +54,8 @@ returns-3 c =
 filled-requires : tie.Need-filled-requires
 filled-requires c κs = search needs
 
-first-requires : tie.Need-first-requires
-first-requires c κs = search needs
+first-priced-requires : tie.Need-first-priced-requires
+first-priced-requires c κs = search needs
 
 -- the table is accepted
 passed : (f : tie.After-filled) → let w = f .before .before .before .before in
@@ -67,24 +67,24 @@ without-requires-4 c κs = search needs
 
 returns-4 : tie.Need-returns-4
 returns-4 c =
-    let g = c .before .before .before in
+    let g = c .before .before .before .before in
     let f = g .before .before in
     let w = f .before .before .before .before in
     let n = w .wide .result in
     let table = w .before .before .args .table .now in
     subst (λ (k : ℕ). AssignmentCall k table (c .without4 .result)) (w .wide .ensures .0)
     (none-found n table (c .without4 .result) (c .without4 .ensures) (passed f)
-    (subst (λ (l : List ℕ). leastAssignment n l ≡ none) (f .filled .ensures) (not-found n _ _ (g .first .result) (g .first .ensures) (not-true _ (c .before .if4 .taken)))))
+    (subst (λ (l : List ℕ). leastAssignment n l ≡ none) (f .filled .ensures) (not-found n _ _ (g .first-priced .result .candidate) (g .first-priced .ensures) (not-true _ (c .before .if4 .taken)))))
 
 priced-requires : tie.Need-priced-requires
 priced-requires c κs =
-    let g = c .before .before .before .before in
+    let g = c .before .before .before .before .before .before .before in
     let w = g .before .before .before .before .before .before in
-    (g .before .before .before .before .if2 .left, found (w .wide .result) _ _ (g .first .result) (g .first .ensures) (not-false _ (c .before .before .if4 .left)))
+    (g .before .before .before .before .if2 .left, found (w .wide .result) _ _ (g .first-priced .result .candidate) (g .first-priced .ensures) (not-false _ (c .before .before .before .before .if4 .left)))
 
 returns-5 : tie.Need-returns-5
 returns-5 c =
-    let f = c .before .before .before .before .before .before .before in
+    let f = c .before .before .before .before .before .before .before .before .before .before in
     let w = f .before .before .before .before in
     let n = w .wide .result in
     let table = w .before .before .args .table .now in
@@ -104,7 +104,7 @@ least-assignment-spec =
     without-requires-3
     returns-3
     filled-requires
-    first-requires
+    first-priced-requires
     without-requires-4
     returns-4
     priced-requires

@@ -1,101 +1,57 @@
 -- `assignment::price::priced` meets its contract. Assumes nothing.
-use Prim.Native.Nat.{ℕ, _≤_, _<_}
-use mathlib.Core.Path.{sym, subst}
-use mathlib.Core.Bool.{false}
-use mathlib.Core.List.{List}
+use mathlib.Core.List.{[]}
 use borrow.Author.Needs.{needs}
-use Rattle.deck.specs.Assignments.{entryAt}
-use Rattle.meaning.specs.Meaning.{_at_}
-use Rattle.prices.specs.Weights.{heavy}
-use Rattle.prices.specs.Square.{copied}
-use Rattle.hungarian.specs.Solving.{Solved}
-use Rattle.hungarian.proofs.Rounds.{nothing-solved}
-use Rattle.assignment.specs.Answers.{Chosen}
-use Rattle.assignment.proofs.Firsts.{weights-light}
-use Rattle.assignment.proofs.Duals.{prices-low, prices-chosen, answered}
+use Rattle.assignment.proofs.Duals.{tasks-few, rounded-serves}
 use Rattle.assignment.proofs.price.priced.Statement.{statement}
 use Rattle.assignment.proofs.price.priced.Tie as tie
 
-solved : (b : tie.After-solve) → let g = b .before .before .before .before .before .before in let o = b .solve .last .1 .1 in
-    Solved (g .before .args .m) (g .weights .result) (g .before .args .m) (o .0) (o .1 .0) (o .1 .1 .0) (o .1 .1 .1 .0)
-solved b = b .solve .ensures
+rounded-columns-requires : tie.Need-rounded-columns-requires
+rounded-columns-requires c κs = search needs
 
-low : (b : tie.After-solve) → let g = b .before .before .before .before .before .before in let o = b .solve .last .1 .1 in
-    (k : ℕ) → k < g .before .args .m → (o .0 at k ≤ heavy) × (o .1 .0 at k ≤ heavy)
-low b =
-    let g = b .before .before .before .before .before .before in
-    let s = g .before in
-    let o = b .solve .last .1 .1 in
-    prices-low (s .args .m) (s .pre .0) (s .args .t .now) (g .weights .result) (o .0) (o .1 .0) (o .1 .1 .0) (o .1 .1 .1 .0) (g .weights .ensures) (solved b)
+tight-rows-requires : tie.Need-tight-rows-requires
+tight-rows-requires c κs =
+    let r = c .before .before in
+    let s = r .before in
+    let a = s .pre .1 in
+    (s .pre .0, tasks-few (s .args .m) (s .args .t .now) (s .args .t3) [] [] (a .0) (a .1) (a .2) (s .pre .0), r .rounded-columns .ensures)
 
-weights-requires : tie.Need-weights-requires
-weights-requires c κs = search needs
+all-serve-requires : tie.Need-all-serve-requires
+all-serve-requires c κs = search needs
 
-solve-requires : tie.Need-solve-requires
-solve-requires c κs =
-    let g = c .before .before .before .before .before in
-    let s = g .before in (
+answer-requires : tie.Need-answer-requires
+answer-requires c κs =
+    let e = c .before .before .before in
+    let k = c .before .before .before .before .before .before in
+    let r = k .before .before .before in
+    let s = r .before in
+    let a = s .pre .1 in (
       s .pre .0,
-      weights-light (s .args .m) (s .pre .0) false (s .args .t .now) (g .weights .result) (g .weights .ensures),
-      nothing-solved (s .args .m) (g .weights .result) (s .pre .0),
+      (
+        a .0,
+        a .1,
+        a .2,
+        rounded-serves (s .args .m) (s .args .t .now) (s .args .t3) (k .tight-rows .result) (r .rounded-columns .result) (a .0) (a .1) (a .2)
+            (k .tight-rows .ensures) (r .rounded-columns .ensures) (e .all-serve .ensures (c .before .before .if1 .taken)),
+      ),
     )
 
-prices-requires : tie.Need-prices-requires
-prices-requires c κs =
-    let b = c .before in
-    (b .before .before .before .before .before .before .before .pre .0, λ k l. low b k l .0)
-
-prices-requires-2 : tie.Need-prices-requires-2
-prices-requires-2 c κs =
-    let b = c .before .before .before in
-    (b .before .before .before .before .before .before .before .pre .0, λ k l. low b k l .1)
-
--- the entry that carrier i has chosen
-picked : (p : tie.After-prices2) → ℕ → ℕ
-picked p i =
-    let s = p .before .before .before .before .before .before .before .before .before .before .before in
-    entryAt (s .args .m) (copied (s .args .m) (s .args .t .now)) i (s .pre .1 .0 at i)
-
-chosen : (p : tie.After-prices2) → let q = p .before .before in let s = q .before .before .before .before .before .before .before .before .before in
-    Chosen (s .args .m) (q .prices .result) (p .prices2 .result) (s .args .t3) (picked p)
-unfolding picked
-chosen p =
-    let q = p .before .before in
-    let b = q .before .before in
-    let g = b .before .before .before .before .before .before in
-    let s = g .before in
-    let o = b .solve .last .1 .1 in
-    let a = s .pre .1 in
-    subst (λ (z : List ℕ). Chosen (s .args .m) (q .prices .result) (p .prices2 .result) z (picked p)) (sym (a .2))
-    (prices-chosen (s .args .m) (s .pre .0) (s .args .t .now) (g .weights .result) (o .0) (o .1 .0) (o .1 .1 .0) (o .1 .1 .1 .0) (g .weights .ensures) (solved b)
-    (a .0) (a .1) (q .prices .result) (p .prices2 .result) (q .prices .ensures .0) (p .prices2 .ensures .0))
-
-chosen-sum-requires : tie.Need-chosen-sum-requires
-chosen-sum-requires c κs =
-    let p = c .before .before .before in
-    (p .before .before .before .before .before .before .before .before .before .before .before .pre .0, (picked p, chosen p))
-
 returns : tie.Need-returns
-unfolding picked
-returns c =
-    let p = c .before .before .before .before in
-    let q = p .before .before in
-    let b = q .before .before in
-    let g = b .before .before .before .before .before .before in
-    let s = g .before in
-    let o = b .solve .last .1 .1 in
-    let a = s .pre .1 in
-    rw (a .2) (answered (s .args .m) (s .pre .0) (s .args .t .now) (g .weights .result) (o .0) (o .1 .0) (o .1 .1 .0) (o .1 .1 .1 .0) (g .weights .ensures) (solved b)
-    (a .0) (a .1) (q .prices .result) (p .prices2 .result) (q .prices .ensures .0) (p .prices2 .ensures .0)
-    (c .chosen-sum .result) (c .chosen-sum .ensures (picked p) (chosen p)) (q .prices .ensures .1) (p .prices2 .ensures .1))
+returns c = search needs
+
+solved-requires : tie.Need-solved-requires
+solved-requires c κs = search needs
+
+returns-2 : tie.Need-returns-2
+returns-2 c = search needs
 
 pub priced-spec : {M : Type 1} → statement M
 priced-spec =
     tie.close
     (tie.spec
-    weights-requires
-    solve-requires
-    prices-requires
-    prices-requires-2
-    chosen-sum-requires
-    returns)
+    rounded-columns-requires
+    tight-rows-requires
+    all-serve-requires
+    answer-requires
+    returns
+    solved-requires
+    returns-2)

@@ -1,4 +1,4 @@
--- `assignment::order::first` meets its contract. Assumes nothing.
+-- `assignment::order::first_priced` meets its contract. Assumes nothing.
 use Prim.Native.Nat.{_%_}
 use mathlib.Core.Path.{_≡_, _∙_}
 use mathlib.Core.Bool.{true}
@@ -7,8 +7,8 @@ use borrow.Author.Needs.{needs}
 use Rattle.hungarian.specs.Solving.{Solved}
 use Rattle.hungarian.proofs.Rounds.{nothing-solved}
 use Rattle.assignment.proofs.Firsts.{weights-light, tasks-low, first-none, first-some, candidate-none, candidate-some}
-use Rattle.assignment.proofs.order.first.Statement.{statement}
-use Rattle.assignment.proofs.order.first.Tie as tie
+use Rattle.assignment.proofs.order.first_priced.Statement.{statement}
+use Rattle.assignment.proofs.order.first_priced.Tie as tie
 
 solved : (b : tie.After-solve) → let g = b .before .before .before .before .before .before in let o = b .solve .last .1 .1 in
     Solved (g .before .args .m) (g .weights .result) (g .before .args .m) (o .0) (o .1 .0) (o .1 .1 .0) (o .1 .1 .1 .0)
@@ -43,8 +43,8 @@ returns c =
     candidate-none (s .args .m) _
     (first-none (s .args .m) (s .pre) (s .args .t .now) (g .weights .result) (o .0) (o .1 .0) (o .1 .1 .0) (o .1 .1 .1 .0) (g .weights .ensures) (solved b) (c .before .total .result) (c .before .total .ensures) (c .if1 .taken))
 
-cast-t20 : tie.Need-cast-t20
-cast-t20 c = search needs
+cast-t22 : tie.Need-cast-t22
+cast-t22 c = search needs
 
 listed-requires : tie.Need-listed-requires
 listed-requires c κs =
@@ -65,14 +65,14 @@ returns-2 c =
     let same : t .total .result % 4294967296 ≡ t .total .result = omega arith in
     candidate-some (s .args .m) _ _ _ _ (f .0) (same ∙ f .1) (c .listed .ensures)
 
-pub first-spec : {M : Type 1} → statement M
-first-spec =
+pub first-priced-spec : {M : Type 1} → statement M
+first-priced-spec =
     tie.close
     (tie.spec
     weights-requires
     solve-requires
     total-requires
     returns
-    cast-t20
+    cast-t22
     listed-requires
     returns-2)
