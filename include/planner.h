@@ -66,6 +66,15 @@ void planner_least_path(const uint8_t *sheet, size_t sheet_len, size_t carrier, 
 void planner_least_assignment(uint8_t m, const uint16_t *table, size_t table_len, uint8_t *tasks, int32_t *rows,
                               int32_t *columns, uint32_t *numbers);
 
+/* The assignments of a table of m by m entries in order: by sum, then by list of tasks. Cause 12.
+ * work: 512 words for each assignment that is to be listed. What it holds before changes nothing; what it holds after an accepted
+ *       call is free. A refused call leaves it as it was.
+ * lists: 12 bytes for each assignment that is listed: the task of each carrier, 255 from m on. As many are listed, from the first
+ *       on, as there are, as work and lists have room for, and 4096 at most; the other bytes stay.
+ * numbers[2]: the cause; how many are listed. */
+void planner_assignments_in_order(uint8_t m, const uint16_t *table, size_t table_len, uint32_t *work, size_t work_len,
+                                  uint8_t *lists, size_t lists_len, uint32_t *numbers);
+
 /* The first collision of m paths of h + 1 words each, carrier by carrier: least time, place before move, least pair i < j.
  * Causes 12, 11.
  * numbers[8]: the cause; 1 if there is a collision; its kind (0 place, 1 move); t; i; j; i's place at t; of a move, i's place at

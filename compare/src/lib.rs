@@ -30,6 +30,16 @@ mod exported {
             columns: *mut i32,
             numbers: *mut u32,
         );
+        pub fn planner_assignments_in_order(
+            m: u8,
+            table: *const u16,
+            table_len: usize,
+            work: *mut u32,
+            work_len: usize,
+            lists: *mut u8,
+            lists_len: usize,
+            numbers: *mut u32,
+        );
         pub fn planner_first_collision(m: u8, h: u8, paths: *const u16, paths_len: usize, numbers: *mut u32);
         pub fn planner_check_plan(
             sheet: *const u8,
@@ -128,6 +138,24 @@ pub fn least_assignment(m: u8, table: &[u16]) -> Assignment {
         )
     };
     answer
+}
+
+/// Cause; how many assignments are listed.
+pub fn assignments_in_order(m: u8, table: &[u16], work: &mut [u32], lists: &mut [u8]) -> [u32; 2] {
+    let mut numbers = [u32::from(OLD); 2];
+    unsafe {
+        exported::planner_assignments_in_order(
+            m,
+            table.as_ptr(),
+            table.len(),
+            work.as_mut_ptr(),
+            work.len(),
+            lists.as_mut_ptr(),
+            lists.len(),
+            numbers.as_mut_ptr(),
+        )
+    };
+    numbers
 }
 
 /// Cause; 1 if there is a collision; kind, t, i, j, u, v.

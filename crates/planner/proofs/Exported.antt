@@ -21,7 +21,9 @@ use Rattle.deck.specs.declared.SearchAnswer.{SearchAnswer}
 use Rattle.meaning.specs.Meaning.{_at_}
 use Rattle.optimal.specs.Demand.{RightCall}
 use Rattle.planner.specs.Small.{SmallPath, SmallAssignment, SmallSearch}
-use Rattle.planner.specs.Exports.{workspaceWanted, stretchNumbers, PathExport, AssignmentExport, SearchExport}
+use Rattle.planner.specs.Exports.{workspaceWanted, stretchNumbers, PathExport, AssignmentExport, InOrderExport, SearchExport}
+use Rattle.in_order.specs.Listed.{InOrderCall}
+use Rattle.in_order.specs.declared.Count.{Count}
 use Rattle.planner.proofs.Sizes.{path-small, assignment-small, search-small}
 
 -- THE SHEET
@@ -72,6 +74,15 @@ module _ {m : ℕ} {table : List ℕ} {r : AssignmentAnswer} where
   pub assignment-exported : {numbers : List ℕ} → AssignmentCall m table r → numbers ≡ assignmentNumbers (r .kind)
       → AssignmentExport m table (r .tasks) (r .rows) (r .columns) numbers
   assignment-exported a e = record { numbered = e ∙ ap assignmentNumbers (a .kind); listed = a .tasks; priced = a .prices }
+
+-- THE ASSIGNMENTS IN ORDER
+pub in-order-exported : {m a b : ℕ} {table work lists work′ lists′ : List ℕ} {r : Count} → InOrderCall m table work lists r work′ lists′ → a ≡ r .cause → b ≡ r .count
+    → InOrderExport m table work lists work′ lists′ (a ∷ b ∷ [])
+in-order-exported p e f = record {
+  numbered = rw (e ∙ p .cause, f ∙ p .count);
+  listed = p .written;
+  unwritten = λ n. p .unwritten (λ q. n (sym (p .cause) ∙ q));
+}
 
 -- THE SEARCH: the task list behind the first five numbers, one task more and all
 pub tasks-more : (l head tasks : List ℕ) (k v : ℕ) → 5 + k < length l → k < length tasks → v ≡ getD tasks k 0

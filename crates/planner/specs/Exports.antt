@@ -7,8 +7,9 @@ use mathlib.Core.List.{List, [], _∷_}
 use lib.ListN.{length}
 use lib.IntN.{ℤ}
 use Rattle.deck.specs.Sheet.{Sheet, Stretch, read}
-use Rattle.deck.specs.Calls.{workspaceFor, pathCause, pathAnswerFor, pathOutputFor, assignmentCause, leastFor, assignmentKind, assignmentTasks, PricesOf, searchCause, searchAnswer, searchOutput}
+use Rattle.deck.specs.Calls.{workspaceFor, pathCause, pathAnswerFor, pathOutputFor, assignmentCause, leastFor, assignmentKind, assignmentTasks, PricesOf, overwrite, searchCause, searchAnswer, searchOutput}
 use Rattle.deck.specs.Numbers.{pathNumbers, assignmentNumbers, searchNumbers}
+use Rattle.in_order.specs.Listed.{listsOf, roomFor, listedFor}
 use Rattle.deck.specs.declared.Carrier.{Carrier}
 use Rattle.deck.specs.declared.Task.{Task}
 use Rattle.optimal.specs.Demand.{RightCall}
@@ -33,6 +34,12 @@ pub record AssignmentExport (m : ℕ) (table tasks : List ℕ) (rows columns : L
   pub numbered : numbers ≡ assignmentNumbers (assignmentKind (assignmentCause m table) m table (leastFor (assignmentCause m table) m table))
   pub listed : tasks ≡ assignmentTasks (leastFor (assignmentCause m table) m table)
   pub priced : PricesOf m table (leastFor (assignmentCause m table) m table) rows columns
+
+-- the assignments in order: the lent words and the numbers afterwards
+pub record InOrderExport (m : ℕ) (table work lists work′ lists′ numbers : List ℕ) : Type 0 where
+  pub numbered : numbers ≡ assignmentCause m table ∷ length (listedFor (assignmentCause m table) (roomFor (length work) (length lists)) m table) ∷ []
+  pub listed : lists′ ≡ overwrite (listsOf (listedFor (assignmentCause m table) (roomFor (length work) (length lists)) m table)) lists
+  pub unwritten : assignmentCause m table ≢ 0 → work′ ≡ work
 
 -- the search: of the words lent, and as they stand afterwards
 pub record SearchExport (s work out numbers work′ out′ : List ℕ) : Type 0 where

@@ -26,6 +26,8 @@ pub fn all() -> Vec<Named> {
         named("assignment 12x12, entries to 1000", || assignments(1000, 0)),
         named("assignment 12x12, entries to 3", || assignments(3, 0)),
         named("assignment 12x12, half barred", || assignments(300, 50)),
+        named("first 1000 assignments in order 12x12, entries to 30", || in_order(30)),
+        named("first 1000 assignments in order 12x12, entries to 3", || in_order(3)),
     ];
     cases.extend(searches());
     cases
@@ -88,6 +90,24 @@ fn assignments(most: usize, barred: usize) -> Case {
         }),
         theirs: Box::new(move |k| {
             black_box(assign::least_assignment(12, &same[k]));
+        }),
+    }
+}
+
+/// The first 1000 assignments in order.
+fn in_order(most: usize) -> Case {
+    const COUNT: usize = 1000;
+    let mut rng = Rng::new(14);
+    let tables: Vec<Vec<u16>> = (0..2).map(|_| table(12, most, 0, &mut rng)).collect();
+    let same = tables.clone();
+    let (mut work, mut lists) = (vec![0; 512 * COUNT], vec![0; 12 * COUNT]);
+    Case {
+        inputs: tables.len(),
+        ours: Box::new(move |k| {
+            black_box(compare::assignments_in_order(12, &tables[k], &mut work, &mut lists));
+        }),
+        theirs: Box::new(move |k| {
+            black_box(assign::Assignments::new(12, &same[k]).take(COUNT).collect::<Vec<_>>());
         }),
     }
 }

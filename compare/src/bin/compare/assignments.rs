@@ -1,7 +1,8 @@
-//! Least assignments: tables of every size, with many ties, barred entries and large ones; and the condition on prices.
+//! Least assignments: tables of every size, with many ties, barred entries and large ones; and the condition on prices. The first
+//! assignments in order of the same tables.
 
-use compare::inputs::table;
-use compare::{least_assignment, Assignment};
+use compare::inputs::{junk, table};
+use compare::{assignments_in_order, least_assignment, Assignment};
 use deckref::assign::{self, AssignmentKind, BARRED};
 use deckref::gen::Rng;
 
@@ -27,8 +28,31 @@ pub fn run(share: &Share) -> Tally {
             entries.resize(length, 0);
         }
         one(&mut tally, count, &entries, seed);
+        in_order(&mut tally, count, &entries, seed, &mut rng);
     }
     tally
+}
+
+/// The first few in order, with room for more, for fewer or for none, in a workspace of any content.
+fn in_order(tally: &mut Tally, m: u8, entries: &[u16], seed: u64, rng: &mut Rng) {
+    let (records, fit) = (rng.range(0, 30), rng.range(0, 30));
+    let mut work = vec![0; 512 * records + rng.pick(&[0, 1, 511])];
+    junk(&mut work, rng);
+    let before = work.clone();
+    let mut lists: Vec<u8> = (0..12 * fit + rng.pick(&[0, 1, 11])).map(|_| rng.word() as u8).collect();
+    let mut wanted = lists.clone();
+    let numbers = assignments_in_order(m, entries, &mut work, &mut lists);
+    let refused = !(1..=12).contains(&m) || entries.len() != usize::from(m) * usize::from(m);
+    let theirs = if refused {
+        [12, 0]
+    } else {
+        let first = assign::Assignments::new(usize::from(m), entries).take(records.min(fit));
+        let count = first.zip(wanted.chunks_mut(12)).map(|((_, tasks), list)| list.copy_from_slice(&tasks)).count();
+        [0, count as u32]
+    };
+    let ok = numbers == theirs && lists == wanted && (!refused || work == before);
+    let kind = if refused { "cause 12, in order".to_string() } else { format!("in order, {}", numbers[1].min(1)) };
+    tally.count(ok, kind, || format!("table {seed}, m {m}, in order: {numbers:?} for {theirs:?}"));
 }
 
 fn one(tally: &mut Tally, m: u8, entries: &[u16], seed: u64) {
