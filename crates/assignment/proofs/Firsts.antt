@@ -39,8 +39,7 @@ weight-low : (merge : Bool) (i j e : ℕ) → i < 12 → j < 12 → e ≤ barred
 unfolding merged place
 weight-low false i j e li lj h = omega (arith, weigh-low e h)
 weight-low true i j e li lj h =
-    let p = places-right i li in
-    omega (arith, weigh-low e h, mul-le-mul-left j (subst (λ (z : ℕ). z ≤ 61917364224) (p .0) (p .1)), lj)
+    omega (arith, weigh-low e h, mul-le-mul-left j (places-right i li .1), lj)
 
 module _ (m : ℕ) (small : m ≤ 12) (merge : Bool) (t w : List ℕ) (W : Weighed m merge t w) where
   -- the weights can be added in pairs

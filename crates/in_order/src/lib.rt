@@ -102,13 +102,22 @@ pub fn in_order(m: u8, table: &[u16], work: &mut [u32], lists: &mut [u8]) -> Cou
 {
     let n = tables::wide(m);
     if n < 1 {
-        return Count { cause: 12, count: 0 };
+        return Count {
+            cause: 12,
+            count: 0,
+        };
     }
     if 12 < n {
-        return Count { cause: 12, count: 0 };
+        return Count {
+            cause: 12,
+            count: 0,
+        };
     }
     if table.len() != n * n {
-        return Count { cause: 12, count: 0 };
+        return Count {
+            cause: 12,
+            count: 0,
+        };
     }
     let t = tables::filled(n, table);
     let most = room(work.len(), lists.len());

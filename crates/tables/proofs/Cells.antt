@@ -1,4 +1,4 @@
--- Arrays of 144 numbers, twelve to a row, filled from the front; the tables of which they are working copies. Assumes nothing.
+-- Arrays of 144 numbers, twelve to a row, filled row by row; the tables of which they are working copies. Assumes nothing.
 use Prim.Native.Nat.{ℕ, zero, suc, _+_, _*_, _/_, _%_, _≤_, _<_}
 use mathlib.Core.Path.{_≡_, refl, sym, ap, _∙_}
 use mathlib.Core.Logic.{⊎-elim, _≢_}
@@ -14,33 +14,34 @@ use Rattle.meaning.specs.Meaning.{_at_}
 use Rattle.prices.specs.Square.{cell, copied}
 use Rattle.prices.proofs.Squares.{square-at, square-same, square-own}
 use Rattle.partition.specs.Parts.{Part, partEntry, partTable}
-use Rattle.tables.specs.Copies.{copyEntry}
+use Rattle.tables.specs.Copies.{RowTo}
 
--- the first n numbers are those of f
-pub record Cells (f : ℕ → ℕ → ℕ) (n : ℕ) (t : List ℕ) : Type 0 where
-  pub size : length t ≡ 144
-  pub done : (k : ℕ) → k < n → t at k ≡ f (k / 12) (k % 12)
+-- A ROW, column by column
+module _ (f : ℕ → ℕ → ℕ) (i : ℕ) where
+  pub row-none : (w : List ℕ) → length w ≡ 144 → RowTo f i 0 w w
+  row-none w e = record { size = e; before = λ k l. refl; done = λ j l. absurd (not-suc-le-zero l) }
 
-pub cells-none : (f : ℕ → ℕ → ℕ) (t : List ℕ) → length t ≡ 144 → Cells f 0 t
-cells-none f t e = record { size = e; done = λ k l. absurd (not-suc-le-zero l) }
+  pub row-more : (j : ℕ) (w₀ w : List ℕ) (x : ℕ) → i < 12 → j < 12 → x ≡ f i j → RowTo f i j w₀ w → RowTo f i (j + 1) w₀ (set w (i * 12 + j) x)
+  row-more j w₀ w x li lj e R = record {
+    size = length-set w (i * 12 + j) x ∙ R .size;
+    before = λ k l. getD-set-other w (i * 12 + j) k x 0 (omega arith) ∙ R .before k l;
+    done = λ k l. ⊎-elim (λ q. rw q (getD-set-same w (i * 12 + j) x 0 (omega (arith, R .size)) ∙ e)) (λ g. getD-set-other w (i * 12 + j) (i * 12 + k) x 0 (omega arith) ∙ R .done k g)
+        (eq-or-lt-of-le (le-of-suc-le-suc (rw add-one at l)));
+  }
 
-pub cells-more : (f : ℕ → ℕ → ℕ) (n : ℕ) (t : List ℕ) (x : ℕ) → n < 144 → x ≡ f (n / 12) (n % 12) → Cells f n t → Cells f (n + 1) (set t n x)
-cells-more f n t x h e C = record {
-  size = length-set t n x ∙ C .size;
-  done = λ k l. ⊎-elim (λ q. rw q (getD-set-same t n x 0 (rw (C .size) h) ∙ e)) (λ g. getD-set-other t n k x 0 (omega arith) ∙ C .done k g)
-      (eq-or-lt-of-le (le-of-suc-le-suc (rw add-one at l)));
+-- THE ROWS below n
+pub record RowsTo (f : ℕ → ℕ → ℕ) (m n : ℕ) (w : List ℕ) : Type 0 where
+  pub size : length w ≡ 144
+  pub done : (i j : ℕ) → i < n → j < m → cell w i j ≡ f i j
+
+pub rows-none : (f : ℕ → ℕ → ℕ) (m : ℕ) (w : List ℕ) → length w ≡ 144 → RowsTo f m 0 w
+rows-none f m w e = record { size = e; done = λ i j l. absurd (not-suc-le-zero l) }
+
+pub rows-more : (f : ℕ → ℕ → ℕ) (m n : ℕ) (w₀ w : List ℕ) → m ≤ 12 → RowsTo f m n w₀ → RowTo f n m w₀ w → RowsTo f m (n + 1) w
+rows-more f m n w₀ w small P R = record {
+  size = R .size;
+  done = λ i j l lj. ⊎-elim (λ q. rw q (R .done j lj)) (λ g. R .before (i * 12 + j) (omega arith) ∙ P .done i j g lj) (eq-or-lt-of-le (le-of-suc-le-suc (rw add-one at l)));
 }
-
--- m rows of them
-pub cells-all : (f : ℕ → ℕ → ℕ) (m n : ℕ) (t : List ℕ) → m ≤ 12 → 12 * m ≤ n → Cells f n t → (i j : ℕ) → i < m → j < m → cell t i j ≡ f i j
-cells-all f m n t small h C i j li lj =
-    let p : (i * 12 + j) / 12 ≡ i = omega arith in
-    let q : (i * 12 + j) % 12 ≡ j = omega arith in
-    C .done (i * 12 + j) (omega arith) ∙ rw (p, q)
-
--- the number at k is in row k / 12 and column k % 12
-pub own-cell : (t : List ℕ) (k : ℕ) → t at k ≡ cell t (k / 12) (k % 12)
-own-cell t k = let e : k ≡ k / 12 * 12 + k % 12 = omega arith in ap (_at_ t) e
 
 -- an entry of a table of m × m
 pub index-low : (m i j : ℕ) → i < m → j < m → i * m + j < m * m
@@ -55,18 +56,8 @@ getD-any [] k x y h = absurd (not-suc-le-zero h)
 getD-any (z ∷ l) zero x y h = refl
 getD-any (z ∷ l) (suc k) x y h = getD-any l k x y (le-of-suc-le-suc h)
 
-module _ (m : ℕ) (table : List ℕ) (i j : ℕ) where
-  pub copy-entry : i < m → j < m → (d : ℕ) → length table ≡ m * m → getD table (i * m + j) d ≡ copyEntry m table i j
-  unfolding copyEntry
-  copy-entry li lj d e = rw (lt-ltb i m li, lt-ltb j m lj) (getD-any table (i * m + j) d barred (rw e (index-low m i j li lj)))
-
-  pub copy-column : i < m → m ≤ j → barred ≡ copyEntry m table i j
-  unfolding copyEntry
-  copy-column li lj = rw (lt-ltb i m li, le-ltb j m lj)
-
-  pub copy-row : m ≤ i → barred ≡ copyEntry m table i j
-  unfolding copyEntry
-  copy-row li = rw (le-ltb i m li)
+pub table-entry : (m : ℕ) (table : List ℕ) (i j d : ℕ) → i < m → j < m → length table ≡ m * m → getD table (i * m + j) d ≡ entryAt m table i j
+table-entry m table i j d li lj e = getD-any table (i * m + j) d barred (rw e (index-low m i j li lj))
 
 -- the entry x in a part's table, by the cases of the code
 module _ (q : Part) (i j x : ℕ) where
@@ -91,11 +82,10 @@ module _ (q : Part) (i j x : ℕ) where
   part-later l e = rw (le-ltb i (q .row) l, ne-eqb i (q .row) e)
 
 -- the working copy of a table
-pub copied-table : (m : ℕ) (table t : List ℕ) → m ≤ 12 → length table ≡ m * m → ((i j : ℕ) → i < m → j < m → cell t i j ≡ copyEntry m table i j)
+pub copied-table : (m : ℕ) (table t : List ℕ) → m ≤ 12 → length table ≡ m * m → ((i j : ℕ) → i < m → j < m → cell t i j ≡ entryAt m table i j)
     → copied m t ≡ table
-unfolding copyEntry
 copied-table m table t small e h =
-    square-same m (cell t) (entryAt m table) (λ i j li lj. h i j li lj ∙ rw (lt-ltb i m li, lt-ltb j m lj))
+    square-same m (cell t) (entryAt m table) h
     ∙ square-own m table e
 
 -- the working copy of a part's table

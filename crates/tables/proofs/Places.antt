@@ -1,29 +1,34 @@
 -- Digits and weights as the code reckons them. Assumes nothing.
-use Prim.Native.Nat.{ℕ, _+_, _-_, _*_, _≤_, _<_}
-use mathlib.Core.Path.{_≡_}
-use mathlib.Core.List.{List, [], _∷_}
+use Prim.Native.Nat.{ℕ, suc, _+_, _*_, _/_, _≤_, _<_}
+use mathlib.Core.Path.{_≡_, refl, ap}
+use mathlib.Core.Bool.{Bool, true, false}
 use native.Mathlib.Nat.{mul-le-mul-left}
 use native.Mathlib.Omega.{arith}
 use Rattle.deck.specs.Lists.{below}
-use Rattle.meaning.specs.Meaning.{_at_}
 use Rattle.meaning.proofs.Tests.{says-eqb, says-leb, says-and}
 use Rattle.meaning.proofs.Lists.{mem-below}
 use Rattle.meaning.proofs.ListTests.{says-all}
 use Rattle.prices.specs.Weights.{weigh, place, placeOf, merged}
+use Rattle.tables.specs.Copies.{weightAt, weightOf}
 
--- the table of places
-unfoldable pub places : List ℕ
-places =
-    61917364224 ∷ 5159780352 ∷ 429981696 ∷ 35831808 ∷ 2985984 ∷ 248832 ∷ 20736 ∷ 1728 ∷ 144 ∷ 12 ∷ 1 ∷ 0 ∷ []
+-- a place is a twelfth of that of the carrier before, and none is above the first
+pub places-right : (i : ℕ) → i < 12 → (placeOf i / 12 ≡ placeOf (suc i)) × (placeOf i ≤ 61917364224)
+unfolding placeOf place
+places-right i l = says-all _ (λ k. (placeOf k / 12 ≡ placeOf (suc k)) × (placeOf k ≤ 61917364224)) (λ k. says-and says-eqb says-leb) (below 12) .fact tt i (mem-below 12 .1 l)
 
--- each is the place of its carrier, and none is above the first
-pub places-right : (i : ℕ) → i < 12 → (places at i ≡ placeOf i) × (places at i ≤ 61917364224)
-unfolding places placeOf place
-places-right i l = says-all _ (λ k. (places at k ≡ placeOf k) × (places at k ≤ 61917364224)) (λ k. says-and says-eqb says-leb) (below 12) .fact tt i (mem-below 12 .1 l)
+pub digit-low : (p j : ℕ) → p ≤ 61917364224 → j < 12 → j * p ≤ 681091006464
+digit-low p j h lj = omega (arith, mul-le-mul-left j h, lj)
 
-pub digit-low : (i j : ℕ) → i < 12 → j < 12 → j * (places at i) ≤ 681091006464
-digit-low i j li lj = omega (arith, mul-le-mul-left j (places-right i li .1), lj)
+-- at the place of its carrier a digit makes the merged weight
+pub weight-is : (merge : Bool) (i j p e : ℕ) → p ≡ placeOf i → weightAt merge p j e ≡ weightOf merge i j e
+unfolding merged
+weight-is true i j p e q = ap (λ (x : ℕ). weigh e * place 12 + j * x) q
+weight-is false i j p e q = refl
 
-pub merged-is : (x i j y d : ℕ) → y ≡ weigh x → d ≡ j * placeOf i → y * 8916100448256 + d ≡ merged i j x
-unfolding merged place
-merged-is x i j y d e f = rw (e, f)
+pub weight-merged : (e j p y : ℕ) → y ≡ weigh e → y * 8916100448256 + j * p ≡ weightAt true p j e
+unfolding place
+weight-merged e j p y q = rw q
+
+pub first-place : 61917364224 ≡ placeOf 0
+unfolding placeOf place
+first-place = refl

@@ -3,12 +3,13 @@
 use deck::Carrier;
 use deck::Task;
 ghost use mathlib.Core.Path.{_≡_};
-ghost use Prim.Native.Nat.{ℕ, _-_, _*_, _≤_, _<_};
+ghost use Prim.Native.Nat.{ℕ, _*_, _≤_, _<_};
 ghost use lib.ListN.{length};
+ghost use Rattle.deck.specs.Assignments.{entryAt};
 ghost use Rattle.prices.specs.Weights.{heavy, weigh as weighOf, placeOf};
 ghost use Rattle.prices.specs.Square.{cell, copied};
 ghost use Rattle.partition.specs.Parts.{partEntry, partTable};
-ghost use Rattle.tables.specs.Copies.{copyEntry, partAt, weightOf, Weighed};
+ghost use Rattle.tables.specs.Copies.{RowTo, partAt, partCell, weightAt, weightCell, Weighed};
 
 pub const BARRED: u16 = 65535;
 
@@ -28,17 +29,14 @@ pub fn entry(t: &[u16; 144], carrier: Carrier, task: Task) -> u16
     t[i * 12 + j]
 }
 
-// What stands in the working copy for row i and column j.
-fn copied_entry(m: usize, table: &[u16], i: usize, j: usize) -> u16
-    requires { ⌜ (m ≤ 12) × (length (now table) ≡ m * m) ⌝ }
-    ensures { λ r. ⌜ r ≡ copyEntry m (now (table .entry)) i j ⌝ }
+// Row i of the working copy.
+fn fill_row(m: usize, table: &[u16], i: usize, t: &mut [u16; 144])
+    requires { ⌜ (m ≤ 12) × (i < m) × (length (now table) ≡ m * m) × (length (now t) ≡ 144) ⌝ }
+    ensures { λ _. ⌜ RowTo (entryAt m (now (table .entry))) i m (now (t .entry)) (now (t .exit)) ⌝ }
 {
-    if i < m {
-        if j < m {
-            return table[i * m + j];
-        }
+    for j in 0..m {
+        t[i * 12 + j] = table[i * m + j];
     }
-    BARRED
 }
 
 // The working copy of a table of m by m entries, filled for m carriers.
@@ -47,10 +45,8 @@ pub fn filled(m: usize, table: &[u16]) -> [u16; 144]
     ensures { λ r. ⌜ copied m r ≡ now (table .entry) ⌝ }
 {
     let mut t = [65535u16; 144];
-    let end = 12 * m;
-    for k in 0..end {
-        let x = copied_entry(m, table, k / 12, k % 12);
-        t[k] = x;
+    for i in 0..m {
+        fill_row(m, table, i, &mut t);
     }
     t
 }
@@ -74,6 +70,25 @@ fn part_entry(tasks: &[u8; 12], row: usize, closed: &[u8; 12], i: usize, j: usiz
     x
 }
 
+// Row i of the working copy for a part.
+fn part_row(
+    m: usize,
+    table: &[u16; 144],
+    tasks: &[u8; 12],
+    row: usize,
+    closed: &[u8; 12],
+    i: usize,
+    t: &mut [u16; 144],
+)
+    requires { ⌜ (m ≤ 12) × (row < 12) × (i < m) × (length (now t) ≡ 144) ⌝ }
+    ensures { λ _. ⌜ RowTo (partCell (partAt row (now (tasks .entry)) (now (closed .entry))) (now (table .entry))) i m (now (t .entry)) (now (t .exit)) ⌝ }
+{
+    for j in 0..m {
+        let x = part_entry(tasks, row, closed, i, j, table[i * 12 + j]);
+        t[i * 12 + j] = x;
+    }
+}
+
 // The working copy of a table for a part: the carriers before `row` keep their tasks, carrier `row` has none that is closed.
 pub fn part(
     m: usize,
@@ -86,10 +101,8 @@ pub fn part(
     ensures { λ r. ⌜ copied m r ≡ partTable m (copied m (now (table .entry))) (partAt row (now (tasks .entry)) (now (closed .entry))) ⌝ }
 {
     let mut t = [65535u16; 144];
-    let end = 12 * m;
-    for k in 0..end {
-        let x = part_entry(tasks, row, closed, k / 12, k % 12, table[k]);
-        t[k] = x;
+    for i in 0..m {
+        part_row(m, table, tasks, row, closed, i, &mut t);
     }
     t
 }
@@ -97,61 +110,48 @@ pub fn part(
 // Heavier than any sum of 12 entries that are not barred.
 pub const HEAVY: u64 = 786409;
 
-// 12 to the powers 10 to 0, and 0: the places of the carriers' task numbers in an assignment that is read as a number to the base
-// 12. The last carrier's task is known by the others'.
-const PLACES: [u64; 12] = [
-    61917364224,
-    5159780352,
-    429981696,
-    35831808,
-    2985984,
-    248832,
-    20736,
-    1728,
-    144,
-    12,
-    1,
-    0,
-];
-
 pub fn weigh(x: u16) -> u64
     ensures { λ r. ⌜ (r ≡ weighOf x) × (x ≤ 65535) × (r ≤ heavy) ⌝ }
 {
     if x == BARRED { HEAVY } else { x as u64 }
 }
 
-// Task j as the digit of carrier i.
-fn digit(i: usize, j: usize) -> u64
-    requires { ⌜ (i < 12) × (j < 12) ⌝ }
-    ensures { λ r. ⌜ (r ≡ j * placeOf i) × (r ≤ 681091006464) ⌝ }
-{
-    (j as u64) * PLACES[i]
-}
-
-// The weight of the entry x; merged with its task's digit below it, so that the least sum of weights is that of the first
-// assignment in order.
-fn weight(merge: bool, x: u16, i: usize, j: usize) -> u64
-    requires { ⌜ (i < 12) × (j < 12) ⌝ }
-    ensures { λ r. ⌜ (r ≡ weightOf merge i j x) × (x ≤ 65535) ⌝ }
+// The weight of the entry x; merged with its task's digit below it, which stands at `place`, so that the least sum of weights is
+// that of the first assignment in order.
+fn weight(merge: bool, x: u16, place: u64, j: usize) -> u64
+    requires { ⌜ (place ≤ 61917364224) × (j < 12) ⌝ }
+    ensures { λ r. ⌜ (r ≡ weightAt merge place j x) × (x ≤ 65535) ⌝ }
 {
     let y = weigh(x);
     if merge {
-        y * 8916100448256 + digit(i, j)
+        y * 8916100448256 + (j as u64) * place
     } else {
         y
     }
 }
 
-// The weights of the entries of a table of m by m.
+// The weights of the entries of row i, whose digits stand at `place`.
+fn weigh_row(m: usize, t: &[u16; 144], merge: bool, place: u64, i: usize, w: &mut [u64; 144])
+    requires { ⌜ (m ≤ 12) × (i < m) × (place ≡ placeOf i) × (length (now w) ≡ 144) ⌝ }
+    ensures { λ _. ⌜ RowTo (weightCell merge (now (t .entry))) i m (now (w .entry)) (now (w .exit)) × ((j : ℕ) → j < m → cell (now (t .entry)) i j ≤ 65535) ⌝ }
+{
+    for j in 0..m {
+        let x = weight(merge, t[i * 12 + j], place, j);
+        w[i * 12 + j] = x;
+    }
+}
+
+// The weights of the entries of a table of m by m. The place of a carrier's digit is a twelfth of that of the carrier before; the
+// last carrier has none, since its task is known by the others'.
 pub fn weights(m: usize, t: &[u16; 144], merge: bool) -> [u64; 144]
     requires { ⌜ m ≤ 12 ⌝ }
     ensures { λ r. ⌜ Weighed m merge (now (t .entry)) r ⌝ }
 {
     let mut w = [0u64; 144];
-    let end = 12 * m;
-    for k in 0..end {
-        let x = weight(merge, t[k], k / 12, k % 12);
-        w[k] = x;
+    let mut place: u64 = 61917364224;
+    for i in 0..m {
+        weigh_row(m, t, merge, place, i, &mut w);
+        place = place / 12;
     }
     w
 }

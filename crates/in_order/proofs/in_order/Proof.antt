@@ -61,9 +61,9 @@ returns-4 c =
     let w = c .before .before .before .before .before .before .before .before .before .before .before .before .before .wide in
     let a = c .before .before .before .before .before .before .before .before .before .before .before .before .before .before .before .before .before .args in
     let cause = table-accepted (a .m) (a .table .now) (omega (arith, w .ensures .0, c .before .before .before .before .before .before .before .before .before .before .before .before .if1 .left)) (omega (arith, w .ensures .0, c .before .before .before .before .before .before .before .before .before .before .before .if2 .left))
-        (subst (λ (n : ℕ). length (a .table .now) ≡ n * n) (w .ensures .0) (c .before .before .before .before .before .before .before .before .before .before .if3 .left)) in
+    (subst (λ (n : ℕ). length (a .table .now) ≡ n * n) (w .ensures .0) (c .before .before .before .before .before .before .before .before .before .before .if3 .left)) in
     let own = subst (λ (n : ℕ). Listing n (a .table .now) (k .result) (o .result) (a .lists .now) (o .last .1 .1 .1 .1 .0)) (w .ensures .0)
-        (subst (λ (l : List ℕ). Listing (w .result) l (k .result) (o .result) (a .lists .now) (o .last .1 .1 .1 .1 .0)) (f .ensures) (o .ensures)) in
+    (subst (λ (l : List ℕ). Listing (w .result) l (k .result) (o .result) (a .lists .now) (o .last .1 .1 .1 .1 .0)) (f .ensures) (o .ensures)) in
     accepted (a .m) (a .table .now) (a .work .now) (a .lists .now) (o .last .0) (o .last .1 .1 .1 .1 .0) _ (k .result) refl cause (k .ensures .0) (k .ensures .1) own
 
 pub in-order-spec : {M : Type 1} → statement M

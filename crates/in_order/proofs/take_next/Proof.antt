@@ -30,17 +30,20 @@ returns c =
     let n = c .before .before .next-slot in
     let s = c .before .before .before .before .before .before in
     let a = s .args in
-    λ rest h.
-        (nothing-left (a .m) (copied (a .m) (a .t .now)) (a .work .now) (a .made) rest h (s .pre .0)
-            (subst (ChosenOf (a .m) (a .work .now) (a .made) (slotsAt (a .m) (a .work .now) (a .made))) (c .enum-told .given .1) (n .ensures)), refl)
+    λ rest h. (
+      nothing-left (a .m) (copied (a .m) (a .t .now)) (a .work .now) (a .made) rest h (s .pre .0)
+          (subst (ChosenOf (a .m) (a .work .now) (a .made) (slotsAt (a .m) (a .work .now) (a .made))) (c .enum-told .given .1) (n .ensures)),
+      refl,
+    )
 
 next-root-requires : tie.Need-next-root-requires
 next-root-requires c κs =
     let n = c .before .before .before .before .next-slot in
     let s = c .before .before .before .before .before .before .before .before in
-    let a = s .args in
-    ((s .pre .0, omega arith, s .pre .1, omega arith),
-    (subst (ChosenOf (a .m) (a .work .now) (a .made) (slotsAt (a .m) (a .work .now) (a .made))) (c .before .before .n .given .1) (n .ensures), (s .pre .4 .0, s .pre .4 .1)))
+    let a = s .args in (
+      (s .pre .0, omega arith, s .pre .1, omega arith),
+      (subst (ChosenOf (a .m) (a .work .now) (a .made) (slotsAt (a .m) (a .work .now) (a .made))) (c .before .before .n .given .1) (n .ensures), (s .pre .4 .0, s .pre .4 .1)),
+    )
 
 put-list-requires : tie.Need-put-list-requires
 put-list-requires c κs = search needs

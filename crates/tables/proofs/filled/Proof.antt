@@ -1,61 +1,46 @@
 -- `tables::filled` meets its contract. Assumes nothing.
-use Prim.Native.Nat.{_≤_, _-_, _*_}
-use mathlib.Core.Path.{refl}
+use Prim.Native.Nat.{ℕ, _-_, _≤_}
+use mathlib.Core.Path.{_≡_, refl}
 use native.Mathlib.Omega.{arith}
-use Rattle.tables.specs.Copies.{copyEntry}
-use Rattle.tables.proofs.Cells.{Cells, cells-none, cells-more, cells-all, copied-table}
+use Rattle.deck.specs.Assignments.{entryAt}
+use Rattle.tables.proofs.Cells.{RowsTo, rows-none, rows-more, copied-table}
 use Rattle.tables.proofs.filled.Statement.{statement}
 use Rattle.tables.proofs.filled.Tie as tie
 
 abbrev Inv-loop : tie.InvT-loop
-Inv-loop m table t₀ end k₀ t k = (k ≤ 12 * m) × Cells (copyEntry m table) k t
+Inv-loop m table t₀ i₀ t i = (i ≤ m) × RowsTo (entryAt m table) m i t
 
 abbrev μ-loop : tie.MeasureT-loop
-μ-loop m table t₀ end k₀ t k = 12 * m - k
-
-mul-end : tie.Need-mul-end Inv-loop μ-loop
-mul-end c = omega arith
+μ-loop m table t₀ i₀ t i = m - i
 
 loop-holds : tie.Need-loop-holds Inv-loop μ-loop
-loop-holds c = (omega arith, cells-none _ _ refl)
+loop-holds c = (omega arith, rows-none _ _ _ refl)
 
-copied-entry-requires : tie.Need-copied-entry-requires Inv-loop μ-loop
-copied-entry-requires c κs = c .before .before .before .pre
+fill-row-requires : tie.Need-fill-row-requires Inv-loop μ-loop
+fill-row-requires c κs =
+    let l = c .before .before .loop in
+    let s = c .before .before .before .before in
+    (s .pre .0, omega arith, s .pre .1, l .inv .1 .size)
 
-mul-t : tie.Need-mul-t Inv-loop μ-loop
-mul-t c = omega arith
-
-array-write-t : tie.Need-array-write-t Inv-loop μ-loop
-array-write-t c = omega arith
-
-add-k : tie.Need-add-k Inv-loop μ-loop
-add-k c = omega arith
+add-i : tie.Need-add-i Inv-loop μ-loop
+add-i c = omega arith
 
 loop-less : tie.Need-loop-less Inv-loop μ-loop
 loop-less c = omega arith
 
 loop-again : tie.Need-loop-again Inv-loop μ-loop
 loop-again c =
-    let l = c .before .before in
-    (omega arith, cells-more _ (l .loop .k) _ _ (omega arith) (c .copied-entry .ensures) (l .loop .inv .1))
+    let l = c .before .before .before .loop in
+    let s = c .before .before .before .before .before in
+    (omega arith, rows-more (entryAt (s .args .m) (s .args .table .now)) (s .args .m) (l .i) (l .t) (c .fill-row .last .1 .1 .1 .0) (s .pre .0) (l .inv .1) (c .fill-row .ensures))
 
 returns : tie.Need-returns Inv-loop μ-loop
 returns c =
+    let l = c .before .loop in
     let s = c .before .before .before in
-    copied-table _ _ (c .before .loop .t) (s .pre .0) (s .pre .1) (cells-all (copyEntry (s .args .m) (s .args .table .now)) _ _ _ (s .pre .0) (omega arith) (c .before .loop .inv .1))
+    copied-table (s .args .m) (s .args .table .now) (l .t) (s .pre .0) (s .pre .1) (λ i j li lj. l .inv .1 .done i j (omega arith) lj)
 
 pub filled-spec : {M : Type 1} → statement M
 filled-spec =
     tie.close
-    (tie.spec
-    Inv-loop
-    μ-loop
-    mul-end
-    loop-holds
-    copied-entry-requires
-    mul-t
-    array-write-t
-    add-k
-    loop-less
-    loop-again
-    returns)
+    (tie.spec Inv-loop μ-loop loop-holds fill-row-requires add-i loop-less loop-again returns)

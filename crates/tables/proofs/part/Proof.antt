@@ -1,79 +1,51 @@
 -- `tables::part` meets its contract. Assumes nothing.
-use Prim.Native.Nat.{_≤_, _-_, _/_, _%_, _*_}
-use mathlib.Core.Path.{refl, ap, _∙_}
+use Prim.Native.Nat.{ℕ, _-_, _≤_}
+use mathlib.Core.Path.{_≡_, refl}
 use native.Mathlib.Omega.{arith}
-use Rattle.prices.specs.Square.{cell}
-use Rattle.partition.specs.Parts.{partEntry}
-use Rattle.tables.specs.Copies.{partAt}
-use Rattle.tables.proofs.Cells.{Cells, cells-none, cells-more, cells-all, own-cell, copied-part}
+use Rattle.tables.specs.Copies.{partAt, partCell}
+use Rattle.tables.proofs.Cells.{RowsTo, rows-none, rows-more, copied-part}
 use Rattle.tables.proofs.part.Statement.{statement}
 use Rattle.tables.proofs.part.Tie as tie
 
 abbrev Inv-loop : tie.InvT-loop
-Inv-loop m table tasks row closed t₀ end k₀ t k = (k ≤ 12 * m) × Cells (λ i j. partEntry (partAt row tasks closed) i j (cell table i j)) k t
+Inv-loop m table tasks row closed t₀ i₀ t i = (i ≤ m) × RowsTo (partCell (partAt row tasks closed) table) m i t
 
 abbrev μ-loop : tie.MeasureT-loop
-μ-loop m table tasks row closed t₀ end k₀ t k = 12 * m - k
-
-mul-end : tie.Need-mul-end Inv-loop μ-loop
-mul-end c = omega arith
+μ-loop m table tasks row closed t₀ i₀ t i = m - i
 
 loop-holds : tie.Need-loop-holds Inv-loop μ-loop
-loop-holds c = (omega arith, cells-none _ _ refl)
+loop-holds c = (omega arith, rows-none _ _ _ refl)
 
-mul-part-entry : tie.Need-mul-part-entry Inv-loop μ-loop
-mul-part-entry c = omega arith
+part-row-requires : tie.Need-part-row-requires Inv-loop μ-loop
+part-row-requires c κs =
+    let l = c .before .before .loop in
+    let s = c .before .before .before in
+    (s .pre .0, s .pre .1, omega arith, l .inv .1 .size)
 
-element-copy-out-part-entry : tie.Need-element-copy-out-part-entry Inv-loop μ-loop
-element-copy-out-part-entry c = omega arith
-
-part-entry-requires : tie.Need-part-entry-requires Inv-loop μ-loop
-part-entry-requires c κs = (c .before .before .before .pre .1, omega arith)
-
-mul-t : tie.Need-mul-t Inv-loop μ-loop
-mul-t c = omega arith
-
-array-write-t : tie.Need-array-write-t Inv-loop μ-loop
-array-write-t c = omega arith
-
-add-k : tie.Need-add-k Inv-loop μ-loop
-add-k c = omega arith
+add-i : tie.Need-add-i Inv-loop μ-loop
+add-i c = omega arith
 
 loop-less : tie.Need-loop-less Inv-loop μ-loop
 loop-less c = omega arith
 
 loop-again : tie.Need-loop-again Inv-loop μ-loop
 loop-again c =
-    let l = c .before .before .before in
-    let a = l .before .args in
-    let q = partAt (a .row) (a .tasks .now) (a .closed .now) in (
+    let l = c .before .before .before .loop in
+    let s = c .before .before .before .before in
+    let a = s .args in (
       omega arith,
-      cells-more (λ i j. partEntry q i j (cell (a .table .now) i j)) (l .loop .k) _ _ (omega arith)
-          (c .part-entry .ensures ∙ ap (partEntry q (l .loop .k / 12) (l .loop .k % 12)) (own-cell (a .table .now) (l .loop .k))) (l .loop .inv .1),
+      rows-more (partCell (partAt (a .row) (a .tasks .now) (a .closed .now)) (a .table .now)) (a .m) (l .i) (l .t) (c .part-row .last .1 .1 .1 .1 .1 .1 .0) (s .pre .0) (l .inv .1)
+          (c .part-row .ensures),
     )
 
 returns : tie.Need-returns Inv-loop μ-loop
 returns c =
+    let l = c .before .loop in
     let s = c .before .before in
     let a = s .args in
-    let q = partAt (a .row) (a .tasks .now) (a .closed .now) in
-    copied-part (a .m) (a .table .now) (c .before .loop .t) q (s .pre .0)
-    (cells-all (λ i j. partEntry q i j (cell (a .table .now) i j)) _ _ _ (s .pre .0) (omega arith) (c .before .loop .inv .1))
+    copied-part (a .m) (a .table .now) (l .t) (partAt (a .row) (a .tasks .now) (a .closed .now)) (s .pre .0) (λ i j li lj. l .inv .1 .done i j (omega arith) lj)
 
 pub part-spec : {M : Type 1} → statement M
 part-spec =
     tie.close
-    (tie.spec
-    Inv-loop
-    μ-loop
-    mul-end
-    loop-holds
-    mul-part-entry
-    element-copy-out-part-entry
-    part-entry-requires
-    mul-t
-    array-write-t
-    add-k
-    loop-less
-    loop-again
-    returns)
+    (tie.spec Inv-loop μ-loop loop-holds part-row-requires add-i loop-less loop-again returns)
