@@ -19,7 +19,7 @@ use Rattle.kernel.specs.Parts.{freeMove, freePlace, stayAfter, stayFrom}
 use Rattle.kernel.proofs.OfSheet.{LetsMove, LetsPlace, free-move-meant, free-place-meant}
 use Rattle.kernel.proofs.Least.{greatest-all, all-greatest}
 use Rattle.bars.specs.Padded.{padOf}
-use Rattle.bars.specs.Bars.{countIn, ownAt, movesFrom, slotOf, moveSlot, placeSlot}
+use Rattle.bars.specs.Bars.{countIn, ownAt, movesFrom, standsOn, slotOf, moveSlot, placeSlot}
 use Rattle.bars.proofs.Walks.{own-says}
 
 -- a record is a constraint of the list, and each constraint is a record
@@ -68,6 +68,26 @@ place-some rs i t v k b o e f = is-false (freePlace (carrier i) (constraintsOf r
         → LetsPlace (carrier i) t v (constraintOf z (carrier (recordWord rs k 1)) (recordWord rs k 2) (recordWord rs k 3) (recordWord rs k 4)) → ⊥
     bars zero q l = let p = own-says rs i t k .fact o in l (p .0) (p .1) (sym f)
     bars (suc z) q l = omega arith
+
+pub stands-says : (rs : List ℕ) (v k : ℕ) → Says (standsOn rs v k) ((recordWord rs k 0 ≡ 0) × (recordWord rs k 2 ≡ v))
+stands-says rs v k = says-and says-eqb says-eqb
+
+-- no record of the carrier at t does: it is
+pub place-none : (rs : List ℕ) (i t v : ℕ) → ((k : ℕ) → k < countIn rs → T (ownAt rs i t k) → ¬ T (standsOn rs v k)) → freePlace (carrier i) (constraintsOf rs) t v ≡ true
+place-none rs i t v h = is-true (freePlace (carrier i) (constraintsOf rs) t v) (free-place-meant (carrier i) (constraintsOf rs) t v .test (λ c m.
+    let r = mem-record rs c m in subst (LetsPlace (carrier i) t v) (sym (r .2)) (lets (r .0) (r .1) (recordWord rs (r .0) 0) refl)))
+  where
+    lets : (k : ℕ) → k < countIn rs → (z : ℕ) → recordWord rs k 0 ≡ z
+        → LetsPlace (carrier i) t v (constraintOf z (carrier (recordWord rs k 1)) (recordWord rs k 2) (recordWord rs k 3) (recordWord rs k 4))
+    lets k b zero e = λ p q x. h k b (own-says rs i t k .test (p, q)) (stands-says rs v k .test (e, sym x))
+    lets k b (suc z) e = tt
+
+-- the test of one record, by its words
+pub stands-no : (rs : List ℕ) (v k : ℕ) → recordWord rs k 0 ≢ 0 → false ≡ standsOn rs v k
+stands-no rs v k n = rw (ne-eqb (recordWord rs k 0) 0 n) refl
+
+pub stands-at : (rs : List ℕ) (v k : ℕ) → recordWord rs k 0 ≡ 0 → eqb (recordWord rs k 2) v ≡ standsOn rs v k
+stands-at rs v k e = rw (eq-eqb (recordWord rs k 0) 0 e) refl
 
 -- The time after which a record lets the carrier stay
 module _ (rs : List ℕ) (i g k : ℕ) where

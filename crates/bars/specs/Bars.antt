@@ -72,3 +72,7 @@ placeSlot rs w k = cond (eqb (recordWord rs k 0) 0) (padOf w (recordWord rs k 2)
 -- the record bars the move from u to v
 abbrev pub movesFrom : List ℕ → ℕ → ℕ → ℕ → Bool
 movesFrom rs u v k = not (eqb (recordWord rs k 0) 0) && (eqb (recordWord rs k 2) u && eqb (recordWord rs k 3) v)
+
+-- the record bars the place v
+abbrev pub standsOn : List ℕ → ℕ → ℕ → Bool
+standsOn rs v k = eqb (recordWord rs k 0) 0 && eqb (recordWord rs k 2) v

@@ -8,9 +8,9 @@ ghost use lib.ListN.{length, getD};
 ghost use lib.Dec.{eqb};
 ghost use Rattle.deck.specs.Sheet.{carrier};
 ghost use Rattle.deck.specs.Calls.{recordWord, constraintAt, constraintsOf};
-ghost use Rattle.kernel.specs.Parts.{freeMove, stayAfter, stayFrom};
+ghost use Rattle.kernel.specs.Parts.{freeMove, freePlace, stayAfter, stayFrom};
 ghost use Rattle.bars.specs.Padded.{padOf};
-ghost use Rattle.bars.specs.Bars.{countIn, Linked, Chained, Timely, OnLayer, Cleared, wayOf, slotOf, moveSlot, placeSlot, movesFrom};
+ghost use Rattle.bars.specs.Bars.{countIn, Linked, Chained, Timely, OnLayer, Cleared, wayOf, slotOf, moveSlot, placeSlot, movesFrom, standsOn};
 
 // The padded number of the place v.
 pub fn pad(w: usize, v: usize) -> usize
@@ -209,6 +209,40 @@ pub fn move_free(
     while 0 < k {
         let r = k - 1;
         if bars(records, r, u, v) {
+            return false;
+        }
+        k = wide32(links[r]);
+    }
+    true
+}
+
+// The record k bars the place v.
+fn bars_place(records: &[u16], k: usize, v: usize) -> bool
+    requires { ⌜ (k < 4096) × (k < countIn (now records)) ⌝ }
+    ensures { λ r. ⌜ r ≡ standsOn (now (records .entry)) v k ⌝ }
+{
+    if word(records, k, 0) != 0 {
+        return false;
+    }
+    word(records, k, 2) == v
+}
+
+// The carrier may be on v at t, as far as its place constraints say.
+pub fn place_free(
+    records: &[u16],
+    i: usize,
+    heads: &[u16; 256],
+    links: &[u32],
+    t: usize,
+    v: usize,
+) -> bool
+    requires { ⌜ (t < 256) × (countIn (now records) ≤ 4096) × Chained (now records) i (now heads) (now links) ⌝ }
+    ensures { λ r. ⌜ r ≡ freePlace (carrier i) (constraintsOf (now (records .entry))) t v ⌝ }
+{
+    let mut k = wide16(heads[t]);
+    while 0 < k {
+        let r = k - 1;
+        if bars_place(records, r, v) {
             return false;
         }
         k = wide32(links[r]);

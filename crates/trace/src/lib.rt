@@ -31,7 +31,7 @@ pub struct Look {
 }
 
 // As many goals as are visited once the carrier is on the padded place p, with k of them visited before.
-fn visit(goals: &[usize; 8], n: usize, k: usize, p: usize) -> usize
+pub fn visit(goals: &[usize; 8], n: usize, k: usize, p: usize) -> usize
     requires { ⌜ (n ≤ 8) × (k ≤ n) ⌝ }
     ensures { λ r. ⌜ Visited (now (goals .entry)) n p k r ⌝ }
 {
@@ -151,7 +151,7 @@ fn next_place(
     0
 }
 
-fn narrow(v: usize) -> u16
+pub fn narrow(v: usize) -> u16
     requires { ⌜ v < 65536 ⌝ }
     ensures { λ r. ⌜ r ≡ v ⌝ }
 {
@@ -159,7 +159,7 @@ fn narrow(v: usize) -> u16
 }
 
 // The places from `from` to `to` - 1 are g.
-fn stay(out: &mut [u16], from: usize, to: usize, g: u16)
+pub fn stay(out: &mut [u16], from: usize, to: usize, g: u16)
     requires { ⌜ (from ≤ to) × (to ≤ length (now out)) ⌝ }
     ensures { λ _. ⌜ Filled from to (λ _. g) (now (out .entry)) (now (out .exit)) ⌝ }
 {

@@ -1,0 +1,5 @@
+pub mod Ways
+pub mod Walking
+pub mod Looking
+pub mod Diving
+pub mod Starting

@@ -1,0 +1,211 @@
+-- A look by one of the five ways: what each test says. Assumes nothing.
+use Prim.Native.Nat.{ℕ, zero, suc, _+_, _-_, _*_, _%_, _≤_, _<_, zero-le}
+use mathlib.Core.Path.{_≡_, refl, sym, ap, _∙_, subst}
+use mathlib.Core.Logic.{_⊎_, inl, inr, ⊎-elim, _≢_}
+use mathlib.Core.Bool.{Bool, true, false, cond, _&&_}
+use mathlib.Core.List.{List}
+use native.Mathlib.Numerals.{add-one}
+use native.Mathlib.Omega.{arith}
+use lib.ListN.{length, getD}
+use lib.Dec.{T, eqb, ltb, ltb→lt}
+use borrow.Author.Tests.{eqb-true}
+use Rattle.deck.specs.Sheet.{Sheet, read, area, free, goalsOf, lastGoal}
+use Rattle.deck.specs.Calls.{constraintsOf}
+use Rattle.deck.specs.declared.Carrier.{Carrier}
+use Rattle.deck.specs.declared.Task.{Task}
+use Rattle.deck.specs.declared.Constraint.{Constraint}
+use Rattle.meaning.specs.Meaning.{Free}
+use Rattle.meaning.proofs.Tests.{Says, is-true}
+use Rattle.meaning.proofs.Paths.{free-meant}
+use Rattle.sheet.proofs.Accepted.{area-range}
+use Rattle.kernel.specs.Layers.{Parts, pass, back, good}
+use Rattle.kernel.specs.Goals.{up}
+use Rattle.kernel.specs.Parts.{freeMove, freePlace, stepFree, partsOf}
+use Rattle.kernel.proofs.Both.{and-left, and-right, and-both}
+use Rattle.kernel.proofs.Labels.{up-le}
+use Rattle.kernel.proofs.OfSheet.{step-free-meant}
+use Rattle.bars.specs.Padded.{padOf}
+use Rattle.bars.proofs.Grid.{pad-least, pad-most, size-of, size-small}
+use Rattle.layers.specs.Raise.{GoalsAt}
+use Rattle.layers.proofs.Around.{step-near}
+use Rattle.passes.specs.Ready.{Ready}
+use Rattle.passes.proofs.Given.{wide-one, wide-most, high-most, horizon-most, few-goals, few-records}
+use Rattle.trace.specs.Along.{Visited}
+use Rattle.trace.proofs.Looking.{visited-up}
+use Rattle.first_walk.specs.declared.Seek.{Seek}
+use Rattle.first_walk.specs.declared.Ahead.the-variants.{Shut, To}
+use Rattle.first_walk.specs.Walk.{turnOf, placeBy, hasBy, slotOf, codeOf, Fails, goesBy, Dead, On, Seen, Given}
+use Rattle.first_walk.proofs.Ways.{Leads, leads, layer-by}
+
+turn-most : (w x : ℕ) → 1 ≤ w → turnOf w x ≤ 2 * w
+turn-most w zero l = zero-le
+turn-most w (suc zero) l = omega arith
+turn-most w (suc (suc zero)) l = omega arith
+turn-most w (suc (suc (suc zero))) l = omega arith
+turn-most w (suc (suc (suc (suc x)))) l = omega arith
+
+-- the value of a mask
+mask-shut : (a b : Bool) → _≡_ {A = ℕ} (cond a (cond b 255 0) 0) 0 → T a → ¬ T b
+mask-shut true true e s t = omega arith
+mask-shut true false e s t = t
+mask-shut false b e s t = s
+
+mask-open : (a b : Bool) → ¬ (_≡_ {A = ℕ} (cond a (cond b 255 0) 0) 0) → T a × T b
+mask-open true true n = (tt, tt)
+mask-open true false n = absurd (n refl)
+mask-open false b n = absurd (n refl)
+
+module _ {s : List ℕ} {i : Carrier} {j : Task} {mask goals rs heads links table : List ℕ} {l : Seek} (g : Given s i j mask goals rs heads links table l)
+    {t u p k : ℕ} (o : On (read s) j (l .end) t u p k) where
+  abbrev d : Sheet
+  d = read s
+
+  abbrev w : Parts
+  w = partsOf (read s) i j (constraintsOf rs)
+
+  pub inside : u < area d
+  inside = free-meant d u .fact (o .on-free) .on-grid
+
+  pub place-small : u < 1024
+  place-small = omega (arith, inside, area-range s (g .ready .accepted) .1)
+
+  pub label-small : k ≤ 8
+  label-small = omega (arith, o .label, few-goals (g .ready))
+
+  pub time-small : t < 256
+  time-small = omega (arith, o .time, g .in-time, horizon-most (g .ready))
+
+  pub width-small : (1 ≤ l .w) × (l .w ≤ 32)
+  width-small = (omega (arith, g .wide, wide-one (g .ready)), omega (arith, g .wide, wide-most (g .ready)))
+
+  -- the padded place by the way x
+  abbrev spot : ℕ → ℕ
+  spot x = padOf (read s .width) u + turnOf (read s .width + 2) x - (read s .width + 2)
+
+  pub spot-of : (x r : ℕ) → r ≡ turnOf (l .w + 2) x → p + r - (l .w + 2) ≡ spot x
+  spot-of x r e = rw (e, g .wide, o .padded) refl
+
+  pub spot-enough : (r : ℕ) → l .w + 2 ≤ p + r
+  spot-enough r = omega (arith, g .wide, o .padded)
+
+  pub padded-small : p ≤ 1156
+  padded-small =
+      omega (arith, o .padded, pad-most d u inside, size-of (d .width) (d .height), size-small (d .width) (d .height) (wide-most (g .ready)) (high-most (g .ready)), wide-most (g .ready), high-most (g .ready))
+
+  pub spot-small : (x : ℕ) → spot x < 1156
+  spot-small x =
+      omega (
+        arith,
+        turn-most (d .width + 2) x (omega arith),
+        pad-most d u inside,
+        size-of (d .width) (d .height),
+        size-small (d .width) (d .height) (wide-most (g .ready)) (high-most (g .ready)),
+        wide-most (g .ready),
+        high-most (g .ready),
+      )
+
+  -- what it takes that the way x leads on
+  goes-asks : (x : ℕ) → T (goesBy d i j (constraintsOf rs) (l .end) t u k x)
+      → T (hasBy d u x) × T (pass w t u (placeBy d u x)) × (length (goalsOf d j) < up (placeBy d u x) (goalsOf d j) k + back w (l .end - (t + 1)) (suc t) (placeBy d u x))
+  goes-asks x h =
+      let a = and-right (hasBy d u x) (good w (l .end - (t + 1)) t u k (placeBy d u x)) h in (
+        and-left (hasBy d u x) (good w (l .end - (t + 1)) t u k (placeBy d u x)) h,
+        and-left (pass w t u (placeBy d u x)) _ a,
+        ltb→lt (w .whole) (w .raise u (placeBy d u x) k + back w (l .end - (t + 1)) (suc t) (placeBy d u x)) (and-right (pass w t u (placeBy d u x)) _ a),
+      )
+
+  pass-step : (v : ℕ) → T (pass w t u v) → T (stepFree d u v && freeMove i (constraintsOf rs) t u v)
+  pass-step v h = and-left (w .step t u v) (w .stand (suc t) v) h
+
+  pass-free : (v : ℕ) → T (pass w t u v) → T (free d v)
+  pass-free v h = free-meant d v .test (step-free-meant d u v .fact (and-left (stepFree d u v) (freeMove i (constraintsOf rs) t u v) (pass-step v h)) .1 .0)
+
+  module _ (x : ℕ) (lx : x < 5) where
+    abbrev Closed : Type 0
+    Closed = ¬ T (goesBy (read s) i j (constraintsOf rs) (l .end) t u k x)
+
+    mask-at : (q : ℕ) → q ≡ spot x → getD mask q 0 ≡ cond (hasBy d u x) (cond (free d (placeBy d u x)) 255 0) 0
+    mask-at q e = rw e (layer-by d u inside mask (λ v. cond (free d v) 255 0) (g .ready .masked) x lx)
+
+    -- no free place
+    pub blocked-way : (q m : ℕ) → q ≡ spot x → m ≡ getD mask q 0 → m ≡ 0 → Closed
+    blocked-way q m e f z h =
+        let a = goes-asks x h in
+        mask-shut (hasBy d u x) (free d (placeBy d u x)) (sym (mask-at q e) ∙ sym f ∙ z) (a .0) (pass-free (placeBy d u x) (a .1))
+
+    -- the place by the way x is free
+    pub record Opens (v q : ℕ) : Type 0 where
+      pub has : T (hasBy d u x)
+      pub is-free : T (free d (placeBy d u x))
+      pub at : v ≡ placeBy d u x
+      pub padded : q ≡ padOf (d .width) v
+
+    pub open-way : (q m r : ℕ) → q ≡ spot x → m ≡ getD mask q 0 → m ≢ 0 → r ≡ turnOf (l .w) x → (l .w ≤ u + r) × Opens (u + r - l .w) q
+    open-way q m r e f n er =
+        let a = mask-open (hasBy d u x) (free d (placeBy d u x)) (λ y. n (f ∙ mask-at q e ∙ y)) in
+        let b = leads d u inside x lx (a .0) in
+        let y : u + r - l .w ≡ placeBy d u x = rw (er, g .wide) refl in
+        let c : turnOf (l .w) x ≡ turnOf (d .width) x = ap (λ (z : ℕ). turnOf z x) (g .wide) in (
+          omega (arith, g .wide, b .enough),
+          record { has = a .0; is-free = a .1; at = y; padded = rw y (e ∙ sym (b .padded)) },
+        )
+
+    module _ (tl : t < l .end) {v q : ℕ} (op : Opens v q) where
+      pub open-inside : v < area d
+      open-inside = rw (op .at) (leads d u inside x lx (op .has) .inside)
+
+      pub open-small : v < 1024
+      open-small = omega (arith, open-inside, area-range s (g .ready .accepted) .1)
+
+      module _ {c : ℕ} (vis : Visited goals (l .n) q k c) where
+        pub counted : c ≡ up v (goalsOf d j) k
+        counted = visited-up (d .width) (omega (arith, wide-one (g .ready))) (goalsOf d j) goals (l .n) v q k c
+            (subst (λ (y : ℕ). GoalsAt (d .width) (goalsOf d j) goals y) (sym (g .many)) (g .on-goals)) (op .padded) vis
+
+        pub count-within : c ≤ length (goalsOf d j)
+        count-within = rw counted (up-le v (goalsOf d j) k (o .label))
+
+        pub count-small : c ≤ 8
+        count-small = omega (arith, count-within, few-goals (g .ready))
+
+        same-count : up (placeBy d u x) (goalsOf d j) k ≡ c
+        same-count = ap (λ (y : ℕ). up y (goalsOf d j) k) (sym (op .at)) ∙ sym counted
+
+        meets-there : T (goesBy d i j (constraintsOf rs) (l .end) t u k x) → length (goalsOf d j) < c + back w (l .end - (t + 1)) (suc t) v
+        meets-there h = rw (op .at) (rw same-count at (goes-asks x h .2))
+
+        -- the bound says that it is too late
+        pub too-late : (b : ℕ) → b ≡ getD table (1024 * c + v) 0 → l .end < t + 1 + b → Closed
+        too-late b e m h = omega (arith, g .low i (constraintsOf rs) (l .end - (t + 1)) (suc t) v c count-within open-inside (meets-there h))
+
+        -- it is remembered
+        pub was-dead : (dead : List ℕ) (b : Bool) → Dead d i j (constraintsOf rs) (l .end) dead → b ≡ eqb (getD dead (slotOf (t + 1) v) 0) (codeOf (t + 1) v c) → b ≡ true → Closed
+        was-dead dead b f e y h =
+            let a = f .fails (slotOf (t + 1) v) (t + 1) v c (omega arith) open-small count-small (eqb-true (getD dead (slotOf (t + 1) v) 0) (codeOf (t + 1) v c) (sym e ∙ y)) in
+            let m : length (goalsOf d j) < c + back w (l .end - (t + 1)) (t + 1) v = subst (λ (y : ℕ). length (goalsOf d j) < c + back w (l .end - (t + 1)) y v) (sym (add-one t)) (meets-there h) in
+            omega arith
+
+        -- it is barred
+        pub barred-way : (b : Bool) → b ≡ (freeMove i (constraintsOf rs) t u v && freePlace i (constraintsOf rs) (t + 1) v) → b ≡ false → Closed
+        barred-way b e y h =
+            let a = rw (← (op .at)) at (goes-asks x h .1) in
+            subst T (sym e ∙ y)
+            (and-both (freeMove i (constraintsOf rs) t u v) (freePlace i (constraintsOf rs) (t + 1) v) (and-right (stepFree d u v) (freeMove i (constraintsOf rs) t u v) (pass-step v a))
+            (rw (add-one t) (and-right (w .step t u v) (w .stand (suc t) v) a)))
+
+        -- the way is open
+        pub clear-way : (b : Bool) → b ≡ (freeMove i (constraintsOf rs) t u v && freePlace i (constraintsOf rs) (t + 1) v) → b ≡ true
+            → Seen d i j (constraintsOf rs) (l .end) t u k x (To v q c)
+        clear-way b e y =
+            let both : T (freeMove i (constraintsOf rs) t u v && freePlace i (constraintsOf rs) (t + 1) v) = subst T (sym (sym e ∙ y)) tt in
+            let free-v : T (free d v) = rw (op .at) (op .is-free) in
+            let touch = leads d u inside x lx (op .has) .beside in
+            let step : T (stepFree d u v) = rw (op .at, step-near d u (placeBy d u x) touch) (and-both (free d u) (free d (placeBy d u x)) (o .on-free) (op .is-free)) in (
+              op .has,
+              op .at,
+              counted,
+              and-both (w .step t u v) (w .stand (suc t) v)
+                  (and-both (stepFree d u v) (freeMove i (constraintsOf rs) t u v) step (and-left (freeMove i (constraintsOf rs) t u v) (freePlace i (constraintsOf rs) (t + 1) v) both))
+                  (rw (← (add-one t)) (and-right (freeMove i (constraintsOf rs) t u v) (freePlace i (constraintsOf rs) (t + 1) v) both)),
+              record { on-free = free-v; padded = op .padded; label = count-within; time = omega arith },
+            )

@@ -1,0 +1,76 @@
+-- From the walk that begins on the start to the answer. Assumes nothing.
+use Prim.Native.Nat.{ℕ, zero, suc, _+_, _-_, _≤_, _<_, zero-le}
+use mathlib.Core.Path.{_≡_, refl, sym, ap, _∙_, subst}
+use mathlib.Core.Bool.{Bool, true, false}
+use mathlib.Core.List.{List}
+use native.Mathlib.Omega.{arith}
+use lib.ListN.{length, replicate}
+use lib.Dec.{T}
+use Rattle.deck.specs.Sheet.{Sheet, read, startOf, goalsOf, lastGoal}
+use Rattle.deck.specs.Calls.{constraintsOf}
+use Rattle.deck.specs.declared.Carrier.{Carrier}
+use Rattle.deck.specs.declared.Task.{Task}
+use Rattle.deck.specs.declared.Constraint.{Constraint}
+use Rattle.kernel.specs.Goals.{up}
+use Rattle.kernel.specs.Parts.{freePlace}
+use Rattle.kernel.proofs.Labels.{up-le}
+use Rattle.bars.specs.Padded.{padOf}
+use Rattle.layers.specs.Raise.{GoalsAt}
+use Rattle.layers.specs.Fill.{Filled}
+use Rattle.passes.specs.Ready.{Ready, Goals}
+use Rattle.passes.proofs.Given.{begins-free, wide-one, horizon-most}
+use Rattle.trace.specs.Along.{Visited}
+use Rattle.trace.proofs.Looking.{visited-up}
+use Rattle.first_walk.specs.declared.Tried.{Tried}
+use Rattle.first_walk.specs.declared.Tried.the-variants.{Found, NoWalk, Unknown}
+use Rattle.first_walk.specs.Walk.{Dived, On, Walked}
+use Rattle.first_walk.proofs.Walking.{start-meets, start-fails, start-barred, all-written}
+
+module _ {s : List ℕ} {i : Carrier} {j : Task} {mask rs : List ℕ} (r : Ready s i j mask rs) (end : ℕ) where
+  abbrev d : Sheet
+  d = read s
+
+  abbrev cs : List Constraint
+  cs = constraintsOf rs
+
+  -- the label on the start
+  pub start-label : {goals : List ℕ} {n p k u w : ℕ} → Goals s j goals → n ≡ length (goalsOf d j) → u ≡ startOf d i → w ≡ d .width → p ≡ padOf w u → Visited goals n p 0 k
+      → k ≡ up (startOf d i) (goalsOf d j) 0
+  start-label {goals} {n} {p} {k} {u} {w} g en eu ew ep v =
+      visited-up (d .width) (omega (arith, wide-one r)) (goalsOf d j) goals n u p 0 k (subst (λ (y : ℕ). GoalsAt (d .width) (goalsOf d j) goals y) (sym en) g)
+      (ep ∙ ap (λ (y : ℕ). padOf y u) ew) v
+      ∙ ap (λ (y : ℕ). up y (goalsOf d j) 0) eu
+
+  pub start-on : {p k u w : ℕ} → u ≡ startOf d i → w ≡ d .width → p ≡ padOf w u → k ≡ up (startOf d i) (goalsOf d j) 0 → On d j end 0 u p k
+  start-on {p} {k} {u} {w} eu ew ep ek = record {
+    on-free = rw eu (begins-free r);
+    padded = ep ∙ ap (λ (y : ℕ). padOf y u) ew;
+    label = rw ek (up-le (startOf d i) (goalsOf d j) 0 zero-le);
+    time = zero-le;
+  }
+
+  -- barred at time 0
+  pub walked-barred : (b : Bool) (u : ℕ) (before : List ℕ) → u ≡ startOf d i → b ≡ freePlace i cs 0 u → b ≡ false → Walked d i j cs end before before NoWalk
+  walked-barred b u before eu e f = (start-barred d i j cs end b (e ∙ ap (λ (y : ℕ). freePlace i cs 0 y) eu) f, refl)
+
+  module _ {u k : ℕ} (eu : u ≡ startOf d i) (ek : k ≡ up (startOf d i) (goalsOf d j) 0) {before after : List ℕ} {a : Tried} (h : Dived d i j cs end 0 u k before after a) where
+    as-case : (b : Tried) → a ≡ b → Dived d i j cs end 0 u k before after b
+    as-case b e = subst (Dived d i j cs end 0 u k before after) e h
+
+    pub walked-none : a ≡ NoWalk → Walked d i j cs end before after NoWalk
+    walked-none e = let q = as-case NoWalk e .says in (start-fails d i j cs end u k eu ek (q .0), q .1)
+
+    pub walked-cut : a ≡ Unknown → Walked d i j cs end before after Unknown
+    walked-cut e = as-case Unknown e .says
+
+    pub found-long : a ≡ Found → length after ≡ length before
+    found-long e = as-case Found e .says .1 .size
+
+    pub walked-found : a ≡ Found → (b : Bool) → b ≡ freePlace i cs 0 u → b ≡ true → end ≤ d .horizon → suc (d .horizon) ≤ length before
+        → {last : List ℕ} {g lo hi : ℕ} → Filled lo hi (λ _. g) after last → lo ≡ end + 1 → hi ≡ suc (d .horizon) → g ≡ lastGoal d j
+        → Walked d i j cs end before last Found
+    walked-found e b eb f l room {last} {g} {lo} {hi} fill elo ehi eg =
+        let q = as-case Found e .says in (
+          start-meets d i j cs end (subst T (sym (sym (eb ∙ ap (λ (y : ℕ). freePlace i cs 0 y) eu) ∙ f)) tt) u k eu ek (q .0),
+          all-written d i j cs end l before after last u k g lo hi eu ek room (q .1) fill elo ehi eg,
+        )
