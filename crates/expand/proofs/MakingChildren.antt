@@ -89,7 +89,7 @@ select-few f (c ∷ l) = go (f c) (select-few f l)
     go false h = omega arith
 
 -- THE LEAST PATH OF THE CHILD of node n by the constraint c, which binds carrier i
-module _ {s mask work : List ℕ} {made latest n : ℕ} {i : Carrier} {c : Constraint} (x : Branch s mask work made latest n i c) where
+module _ {s mask work bounds : List ℕ} {made latest n : ℕ} {i : Carrier} {c : Constraint} (x : Branch s mask work bounds made latest n i c) where
   abbrev d : Sheet
   d = read s
 
@@ -202,7 +202,7 @@ one-found d j none r f e g = absurd (let z : _≡_ {A = ℕ} 0 1 = cc in omega a
 one-found d j (some p) r f e g = (p, refl, cc)
 
 -- THE CHILD, once its path is looked for
-module _ {s mask work : List ℕ} {made latest n : ℕ} {i : Carrier} {c : Constraint} (x : Branch s mask work made latest n i c) (after : List ℕ) (front : Front (read s .limit) work after) where
+module _ {s mask work bounds : List ℕ} {made latest n : ℕ} {i : Carrier} {c : Constraint} (x : Branch s mask work bounds made latest n i c) (after : List ℕ) (front : Front (read s .limit) work after) where
   module _ (r : PathAnswer) (e : r ≡ pathFound (read s) (childTask (read s) work n c) (childPath (read s) work n c)) where
     pub no-path : OneOf (1 ∷ 2 ∷ []) (tagOf the-answer r) → childPath (read s) work n c ≡ none
     no-path k = none-found (read s) (childTask (read s) work n c) (childPath (read s) work n c) r e k

@@ -94,8 +94,8 @@ module _ {d : Sheet} {work after : List ℕ} {made latest k l : ℕ} {r : Grown}
       ((g .0, g .2), omega (arith, child-more (problem d) (d .limit) 0 (nodeAt d work n) c st (g .0) (g .1), g .2 .number, h .1 .number))
 
 -- THE CHILDREN: what each is made of, the first after the root, the second after the first
-pub first-branch : {s mask table work after : List ℕ} {made latest k l n : ℕ} {i : Carrier} {c : Constraint} {r : Grown} → Given s mask table work → n < made → Holding (read s) work made latest → Ordered (read s) work n
-    → r ≡ Made k l → RootStep (read s) work after made latest n r → Same (read s) work after made → length after ≡ length work → boundBy c ≡ i .0 → Good (read s) c → Branch s mask after k l n i c
+pub first-branch : {s mask table work bounds after : List ℕ} {made latest k l n : ℕ} {i : Carrier} {c : Constraint} {r : Grown} → Given s mask table work bounds → n < made → Holding (read s) work made latest → Ordered (read s) work n
+    → r ≡ Made k l → RootStep (read s) work after made latest n r → Same (read s) work after made → length after ≡ length work → boundBy c ≡ i .0 → Good (read s) c → Branch s mask after bounds k l n i c
 first-branch {n = n} given b h o e step same long bound good =
     let g = root-held h e n step in
     record {
@@ -107,10 +107,11 @@ first-branch {n = n} given b h o e step same long bound good =
       ordered = rw (same n b) o;
       bound = bound;
       good = good;
+      bounded = given .bounded;
     }
 
-pub second-branch : {s mask work after : List ℕ} {made latest k l n : ℕ} {i j : Carrier} {c b : Constraint} {r : Grown} → Branch s mask work made latest n i c
-    → r ≡ Made k l → ChildStep (read s) work after made latest n c r → Same (read s) work after made → length after ≡ length work → boundBy b ≡ j .0 → Good (read s) b → Branch s mask after k l n j b
+pub second-branch : {s mask work bounds after : List ℕ} {made latest k l n : ℕ} {i j : Carrier} {c b : Constraint} {r : Grown} → Branch s mask work bounds made latest n i c
+    → r ≡ Made k l → ChildStep (read s) work after made latest n c r → Same (read s) work after made → length after ≡ length work → boundBy b ≡ j .0 → Good (read s) b → Branch s mask after bounds k l n j b
 second-branch {n = n} {c = c} x e step same long bound good =
     let g = child-held (x .held) e n c step in
     record {
@@ -122,6 +123,7 @@ second-branch {n = n} {c = c} x e step same long bound good =
       ordered = rw (same n (x .below)) (x .ordered);
       bound = bound;
       good = good;
+      bounded = x .bounded;
     }
 
 -- THE WHOLE: of node n of `work`, by the root, and then by the children

@@ -42,7 +42,7 @@ use Rattle.scratch.specs.Front.{Front}
 use Rattle.expand.specs.Held.{Given, Nodes, Held, Begun, Same}
 
 -- ROOM for the records and the keys
-module _ {s mask table work : List ℕ} (g : Given s mask table work) where
+module _ {s mask table work bounds : List ℕ} (g : Given s mask table work bounds) where
   pub room-keys : 512 * read s .limit + 4096 ≤ length work
   unfolding workspaceFor
   room-keys = omega (arith, g .room)
@@ -117,7 +117,7 @@ module _ {d : Sheet} {mid after : List ℕ} {n : ℕ} {a : List ℕ} {i : ℕ} {
   path-same = kept-nodes d (d .limit) mid after n (B .stored) path-alikes path-keep
 
 -- ONE PATH OF A ROOT
-module _ {s mask table work : List ℕ} {n : ℕ} (i : Carrier) {a : List ℕ} {st : State (List ℕ) Constraint} (g : Given s mask table work) (b : i .0 < countOf s)
+module _ {s mask table work bounds : List ℕ} {n : ℕ} (i : Carrier) {a : List ℕ} {st : State (List ℕ) Constraint} (g : Given s mask table work bounds) (b : i .0 < countOf s)
     (B : Begun (read s) work n a (i .0) st) where
   abbrev d : Sheet
   d = read s
@@ -228,8 +228,8 @@ module _ {s mask table work : List ℕ} {n : ℕ} (i : Carrier) {a : List ℕ} {
           path-same at-mid f p wrote-path k h ∙ front-same mid (limit-low g) front B k h
 
 -- THE ROOT IS OPENED
-pub given-kept : {s mask table work after : List ℕ} → Given s mask table work → length after ≡ length work → Given s mask table after
-given-kept g e = record { accepted = g .accepted; masked = g .masked; table-is = g .table-is; room = rw e (g .room) }
+pub given-kept : {s mask table work bounds after : List ℕ} → Given s mask table work bounds → length after ≡ length work → Given s mask table after bounds
+given-kept g e = record { accepted = g .accepted; masked = g .masked; table-is = g .table-is; room = rw e (g .room); bounded = g .bounded }
 
 module _ {d : Sheet} (fits : Fits d) {work after : List ℕ} {made : ℕ} {a : List ℕ} {i : ℕ} {st : State (List ℕ) Constraint} (B : Begun d work made a i st) (ei : i ≡ d .count)
     {limit : ℕ} (el : limit ≡ d .limit) (opens : (e : Sheet) (b : List ℕ) → Fits e → Stored e limit work made → RootSoFar e work made b (e .count) → Added e limit work after made (rootOf (problem e) b))

@@ -71,7 +71,7 @@ pub is-root : (d : Sheet) (work : List ℕ) (n : ℕ) (r : Bool) → r ≡ rootI
 is-root d work n r e t = sym (root-read d work n) ∙ sym e ∙ sym (Bool·not-not r) ∙ ap not t
 
 -- THE SLOTS, by the numbers that the code has
-module _ {s mask table work : List ℕ} (g : Given s mask table work) {made latest : ℕ} {st : State (List ℕ) Constraint} (H : Held (read s) work made latest st) where
+module _ {s mask table work bounds : List ℕ} (g : Given s mask table work bounds) {made latest : ℕ} {st : State (List ℕ) Constraint} (H : Held (read s) work made latest st) where
   pub latest-room : 512 * latest ≤ length work
   latest-room = omega (arith, room-keys g, H .recent, H .within)
 

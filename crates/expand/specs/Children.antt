@@ -16,11 +16,12 @@ use Rattle.deck.specs.declared.Constraint.{Constraint}
 use Rattle.bars.specs.Padded.{MaskOf}
 use Rattle.nodes.specs.Nodes.{nodeAt}
 use Rattle.nodes.specs.Stored.{Good}
+use Rattle.scratch.specs.Bounded.{Bounded}
 use Rattle.expand.specs.Held.{Holding, Ordered}
 
--- of an accepted sheet with its mask and a workspace with room: node n is held and its paths are least, and c is a constraint of the
--- sheet that binds carrier i
-pub record Branch (s mask work : List ℕ) (made latest n : ℕ) (i : Carrier) (c : Constraint) : Type 0 where
+-- of an accepted sheet with its mask, a workspace with room and the lower bounds of its tasks: node n is held and its paths are
+-- least, and c is a constraint of the sheet that binds carrier i
+pub record Branch (s mask work bounds : List ℕ) (made latest n : ℕ) (i : Carrier) (c : Constraint) : Type 0 where
   pub accepted : cause s ≡ 0
   pub masked : MaskOf (read s) mask
   pub room : workspaceFor (read s) ≤ length work
@@ -29,6 +30,7 @@ pub record Branch (s mask work : List ℕ) (made latest n : ℕ) (i : Carrier) (
   pub ordered : Ordered (read s) work n
   pub bound : boundBy c ≡ i .0
   pub good : Good (read s) c
+  pub bounded : Bounded (read s) bounds
 
 abbrev pub childTask : Sheet → List ℕ → ℕ → Constraint → Task
 childTask d work n c = task (taskOf (problem d) (nodeAt d work n .tasks) (boundBy c))

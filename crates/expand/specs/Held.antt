@@ -19,15 +19,17 @@ use Rattle.roots.specs.Slots.{SlotsHold}
 use Rattle.roots.specs.Begun.{SlotsAlike}
 use Rattle.optimal.proofs.Deck.{rules}
 use Rattle.optimal.proofs.Nodes.{InOrder}
+use Rattle.scratch.specs.Bounded.{Bounded}
 use Rattle.expand.specs.declared.Grown.{Grown}
 use Rattle.expand.specs.declared.Grown.the-variants.{Made, Spent}
 
--- an accepted sheet, its mask, the working copy of its table, and a workspace with room
-pub record Given (s mask table work : List ℕ) : Type 0 where
+-- an accepted sheet, its mask, the working copy of its table, a workspace with room, and the lower bounds of its tasks
+pub record Given (s mask table work bounds : List ℕ) : Type 0 where
   pub accepted : cause s ≡ 0
   pub masked : MaskOf (read s) mask
   pub table-is : copied (read s .count) table ≡ tableOf (read s)
   pub room : workspaceFor (read s) ≤ length work
+  pub bounded : Bounded (read s) bounds
 
 abbrev pub Nodes : Type 0
 Nodes = List (Node (List ℕ) Constraint)

@@ -45,8 +45,9 @@ fn root_path(
     spare: &mut [u32; 8192],
     n: usize,
     i: Carrier,
+    bounds: &[u8],
 )
-    requires { ⌜ Given (now s) (now mask) (now t) (now work) × (i .0 < countOf (now s)) ⌝ }
+    requires { ⌜ Given (now s) (now mask) (now t) (now work) (now bounds) × (i .0 < countOf (now s)) ⌝ }
     requires { ⌜ ((a : List ℕ) × (st : State (List ℕ) Constraint) × Begun (read (now s)) (now work) n a (i .0) st) ⌝ }
     ensures begun { λ _. ⌜ ((a : List ℕ) (st : State (List ℕ) Constraint) → Begun (read (now (s .entry))) (now (work .entry)) n a (i .0) st → Begun (read (now (s .entry))) (now (work .exit)) n a (i .0 + 1) st) ⌝ }
     ensures same { λ _. ⌜ Same (read (now (s .entry))) (now (work .entry)) (now (work .exit)) n ⌝ }
@@ -67,6 +68,7 @@ fn root_path(
         spare,
         &mut path,
         &none[..0],
+        bounds,
     ) else {
         return;
     };
@@ -81,15 +83,16 @@ pub fn complete_root(
     work: &mut [u32],
     spare: &mut [u32; 8192],
     made: usize,
+    bounds: &[u8],
 )
-    requires { ⌜ Given (now s) (now mask) (now t) (now work) ⌝ }
+    requires { ⌜ Given (now s) (now mask) (now t) (now work) (now bounds) ⌝ }
     requires { ⌜ ((a : List ℕ) × (st : State (List ℕ) Constraint) × Begun (read (now s)) (now work) made a 0 st) ⌝ }
     ensures held { λ _. ⌜ ((a : List ℕ) (st : State (List ℕ) Constraint) → Begun (read (now (s .entry))) (now (work .entry)) made a 0 st → Held (read (now (s .entry))) (now (work .exit)) (made + 1) (made + 1) (added (rootOf (problem (read (now (s .entry)))) a ∷ []) st)) ⌝ }
     ensures same { λ _. ⌜ Same (read (now (s .entry))) (now (work .entry)) (now (work .exit)) made ⌝ }
 {
     let m = sheet::byte_at(s, 2);
     for i in 0..m {
-        root_path(s, mask, t, work, spare, made, Carrier(i));
+        root_path(s, mask, t, work, spare, made, Carrier(i), bounds);
     }
     nodes::open_root(work, sheet::word_at(s, 4), made);
 }
@@ -104,8 +107,9 @@ fn next_root(
     made: usize,
     latest: usize,
     n: usize,
+    bounds: &[u8],
 ) -> Grown
-    requires { ⌜ Given (now s) (now mask) (now t) (now work) × (n < made) × Holding (read (now s)) (now work) made latest ⌝ }
+    requires { ⌜ Given (now s) (now mask) (now t) (now work) (now bounds) × (n < made) × Holding (read (now s)) (now work) made latest ⌝ }
     ensures grew { λ r. ⌜ ((opened : Nodes) (rest : List (List ℕ)) (bound : ℕ) → Held (read (now (s .entry))) (now (work .entry)) made latest (record { opened = opened; made = made; rest = rest }) → Grew (read (now (s .entry))) (now (work .exit)) bound r (makeRoot (problem (read (now (s .entry)))) (read (now (s .entry)) .limit) bound (nodeAt (read (now (s .entry))) (now (work .entry)) n .root) rest (record { opened = opened; made = made; rest = restAfter (problem (read (now (s .entry)))) (nodeAt (read (now (s .entry))) (now (work .entry)) n .root) rest }))) ⌝ }
     ensures same { λ _. ⌜ Same (read (now (s .entry))) (now (work .entry)) (now (work .exit)) made ⌝ }
 {
@@ -120,7 +124,7 @@ fn next_root(
         return Grown::Spent;
     }
     roots::next_root(work, m, t, latest, made, from, j);
-    complete_root(s, mask, t, work, spare, made);
+    complete_root(s, mask, t, work, spare, made, bounds);
     Grown::Made {
         made: made + 1,
         latest: made + 1,
@@ -151,8 +155,9 @@ fn child_path(
     n: usize,
     child: Child,
     out: &mut [u16],
+    bounds: &[u8],
 ) -> PathAnswer
-    requires { ⌜ ((made : ℕ) × (latest : ℕ) × Branch (now s) (now mask) (now work) made latest n (child .carrier) (child .constraint)) ⌝ }
+    requires { ⌜ ((made : ℕ) × (latest : ℕ) × Branch (now s) (now mask) (now work) (now bounds) made latest n (child .carrier) (child .constraint)) ⌝ }
     requires { ⌜ (length (now list) ≡ 20480) × (suc (read (now s) .horizon) ≤ length (now out)) ⌝ }
     ensures answer { λ r. ⌜ r ≡ pathFound (read (now (s .entry))) (childTask (read (now (s .entry))) (now (work .entry)) n (child .constraint)) (childPath (read (now (s .entry))) (now (work .entry)) n (child .constraint)) ⌝ }
     ensures written { λ _. ⌜ now (out .exit) ≡ pathWritten (childPath (read (now (s .entry))) (now (work .entry)) n (child .constraint)) (now (out .entry)) ⌝ }
@@ -162,7 +167,18 @@ fn child_path(
     let size = 5 * constraints(work, n, child, list);
     let j = records::task_of(work, n, i);
     let bound = records::finish_of(work, n, i);
-    scratch::least(s, i, j, mask, bound, work, spare, out, &list[..size])
+    scratch::least(
+        s,
+        i,
+        j,
+        mask,
+        bound,
+        work,
+        spare,
+        out,
+        &list[..size],
+        bounds,
+    )
 }
 
 // Makes the child of node n by one more constraint, where its carrier has a path.
@@ -176,8 +192,9 @@ fn make_child(
     latest: usize,
     n: usize,
     child: Child,
+    bounds: &[u8],
 ) -> Grown
-    requires { ⌜ Branch (now s) (now mask) (now work) made latest n (child .carrier) (child .constraint) × (length (now list) ≡ 20480) ⌝ }
+    requires { ⌜ Branch (now s) (now mask) (now work) (now bounds) made latest n (child .carrier) (child .constraint) × (length (now list) ≡ 20480) ⌝ }
     ensures grew { λ r. ⌜ ((st : State (List ℕ) Constraint) (bound : ℕ) → Held (read (now (s .entry))) (now (work .entry)) made latest st → Grew (read (now (s .entry))) (now (work .exit)) bound r (makeChild (problem (read (now (s .entry)))) (read (now (s .entry)) .limit) bound (nodeAt (read (now (s .entry))) (now (work .entry)) n) (child .constraint) st)) ⌝ }
     ensures same { λ _. ⌜ Same (read (now (s .entry))) (now (work .entry)) (now (work .exit)) made ⌝ }
 {
@@ -185,8 +202,17 @@ fn make_child(
     let last = sheet::byte_at(s, 3);
     let limit = sheet::word_at(s, 4);
     let mut path = [0u16; 256];
-    let PathAnswer::Found(finish) = child_path(s, mask, work, spare, list, n, child, &mut path)
-    else {
+    let PathAnswer::Found(finish) = child_path(
+        s,
+        mask,
+        work,
+        spare,
+        list,
+        n,
+        child,
+        &mut path,
+        bounds,
+    ) else {
         return Grown::Made { made, latest };
     };
     if made == limit {
@@ -222,18 +248,38 @@ pub fn expand(
     n: usize,
     first: Child,
     second: Child,
+    bounds: &[u8],
 ) -> Grown
-    requires { ⌜ Given (now s) (now mask) (now t) (now work) × (n < made) × (length (now list) ≡ 20480) × Holding (read (now s)) (now work) made latest ⌝ }
+    requires { ⌜ Given (now s) (now mask) (now t) (now work) (now bounds) × (n < made) × (length (now list) ≡ 20480) × Holding (read (now s)) (now work) made latest ⌝ }
     requires { ⌜ Ordered (read (now s)) (now work) n × (boundBy (first .constraint) ≡ first .carrier .0) × Good (read (now s)) (first .constraint) × (boundBy (second .constraint) ≡ second .carrier .0) × Good (read (now s)) (second .constraint) ⌝ }
     ensures grew { λ r. ⌜ ((opened : Nodes) (rest : List (List ℕ)) (bound : ℕ) → Held (read (now (s .entry))) (now (work .entry)) made latest (record { opened = opened; made = made; rest = rest }) → Grew (read (now (s .entry))) (now (work .exit)) bound r (makeEach (problem (read (now (s .entry)))) (read (now (s .entry)) .limit) bound (nodeAt (read (now (s .entry))) (now (work .entry)) n) (first .constraint, second .constraint) rest (record { opened = opened; made = made; rest = restAfter (problem (read (now (s .entry)))) (nodeAt (read (now (s .entry))) (now (work .entry)) n .root) rest }))) ⌝ }
 {
-    let Grown::Made { made: k, latest: l } = next_root(s, mask, t, work, spare, made, latest, n)
-    else {
+    let Grown::Made { made: k, latest: l } = next_root(
+        s,
+        mask,
+        t,
+        work,
+        spare,
+        made,
+        latest,
+        n,
+        bounds,
+    ) else {
         return Grown::Spent;
     };
-    let Grown::Made { made: k, latest: l } = make_child(s, mask, work, spare, list, k, l, n, first)
-    else {
+    let Grown::Made { made: k, latest: l } = make_child(
+        s,
+        mask,
+        work,
+        spare,
+        list,
+        k,
+        l,
+        n,
+        first,
+        bounds,
+    ) else {
         return Grown::Spent;
     };
-    make_child(s, mask, work, spare, list, k, l, n, second)
+    make_child(s, mask, work, spare, list, k, l, n, second, bounds)
 }

@@ -1,3 +1,4 @@
 pub mod Turning
 pub mod Running
 pub mod Calling
+pub mod Bounding

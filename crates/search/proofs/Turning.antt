@@ -201,8 +201,8 @@ module _ (s : List ℕ) (ok : cause s ≡ 0) where
           ∙ rw (same-node, taken .0, held .number)
 
 -- a workspace as long as another has room too
-pub given-kept : (s mask t work after : List ℕ) → Given s mask t work → length after ≡ length work → Given s mask t after
-given-kept s mask t work after g e = record { accepted = g .accepted; masked = g .masked; table-is = g .table-is; room = rw e (g .room) }
+pub given-kept : (s mask t work bounds after : List ℕ) → Given s mask t work bounds → length after ≡ length work → Given s mask t after bounds
+given-kept s mask t work bounds after g e = record { accepted = g .accepted; masked = g .masked; table-is = g .table-is; room = rw e (g .room); bounded = g .bounded }
 
 -- WHAT THE CALLS OF A TURN SAY: node n is the one that is taken, and `closed` is the workspace once it is closed
 pub record Took (s work closed : List ℕ) (made n cost : ℕ) : Type 0 where
@@ -217,8 +217,8 @@ module _ (s : List ℕ) (ok : cause s ≡ 0) (work : List ℕ) (made latest k : 
   pick-is limit l r x says e = subst (Cheapest (read s) (read s .limit) work made) e (subst (λ b. Stored (read s) b work made → Cheapest (read s) b work made r) l (says (read s) (accepted-fits s ok)) (turning .0 .stored))
 
   module _ (closed : List ℕ) (n cost : ℕ) (took : Took s work closed made n cost) (room : workspaceFor (read s) ≤ length work) where
-    pub took-given : (mask t : List ℕ) → Given s mask t work → Given s mask t closed
-    took-given mask t g = given-kept s mask t work closed g (ap length (took .is) ∙ length-set work (512 * read s .limit + n) closedKey)
+    pub took-given : (mask t bounds : List ℕ) → Given s mask t work bounds → Given s mask t closed bounds
+    took-given mask t bounds g = given-kept s mask t work bounds closed g (ap length (took .is) ∙ length-set work (512 * read s .limit + n) closedKey)
 
     pub took-held : Held (read s) closed made latest (record { opened = openedAt (read s) (read s .limit) closed made; made = made; rest = st .rest })
     took-held = rw (took .is) (closed-held s ok work made latest k st turning (room-of s ok work room) n cost (took .inside) (took .taken))

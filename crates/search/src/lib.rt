@@ -5,6 +5,7 @@ use assignment::order;
 use deck::Carrier;
 use deck::SearchAnswer;
 use deck::SearchKind;
+use deck::Task;
 use turns::End;
 ghost use mathlib.Core.Path.{_≡_};
 ghost use mathlib.Core.List.{List};
@@ -18,6 +19,8 @@ ghost use Rattle.deck.specs.Search.{Answer};
 ghost use Rattle.deck.specs.Planner.{planFor};
 ghost use Rattle.deck.specs.declared.SearchAnswer.{SearchAnswer};
 ghost use Rattle.optimal.specs.Demand.{RightCall};
+ghost use Rattle.bars.specs.Padded.{MaskOf};
+ghost use Rattle.scratch.specs.Bounded.{Bounded};
 ghost use Rattle.expand.specs.Held.{Given};
 ghost use Rattle.search.specs.Turns.{StartsOf, EndedWith};
 
@@ -38,6 +41,17 @@ fn starts_of(s: &[u8]) -> [u16; 12]
         starts[i] = narrow(sheet::start(s, Carrier(i)));
     }
     starts
+}
+
+// The lower bounds of all tasks, 9216 bytes to each.
+fn bounds_of(s: &[u8], mask: &[u8; 1156], table: &mut [u8])
+    requires { ⌜ (cause (now s) ≡ 0) × MaskOf (read (now s)) (now mask) × (length (now table) ≡ 110592) ⌝ }
+    ensures { λ _. ⌜ Bounded (read (now (s .entry))) (now (table .exit)) ⌝ }
+{
+    let m = sheet::byte_at(s, 2);
+    for j in 0..m {
+        bounds::bounds(s, Task(j), mask, &mut table[9216 * j..9216 * j + 9216]);
+    }
 }
 
 // An answer without a plan.
@@ -87,14 +101,15 @@ fn planned(
     spare: &mut [u32; 8192],
     tasks: [u8; 12],
     out: &mut [u16],
+    bounds: &[u8],
 ) -> SearchAnswer
-    requires { ⌜ Given (now s) (now mask) (now t) (now work) × StartsOf (read (now s)) (now starts) × (planWords (read (now s)) ≤ length (now out)) ⌝ }
+    requires { ⌜ Given (now s) (now mask) (now t) (now work) (now bounds) × StartsOf (read (now s)) (now starts) × (planWords (read (now s)) ≤ length (now out)) ⌝ }
     requires { ⌜ ((a : List ℕ) × (leastAssignment (countOf (now s)) (tableOf (read (now s))) ≡ some a) × (tasks ≡ taskList a)) ⌝ }
     ensures { λ r. ⌜ (r ≡ searchFound (planFor (read (now (s .entry))))) × (now (out .exit) ≡ searchWritten (planFor (read (now (s .entry)))) (now (out .entry))) ⌝ }
 {
     roots::first_root(work, sheet::byte_at(s, 2), t, tasks);
-    expand::complete_root(s, mask, t, work, spare, 0);
-    let end = turns::run(s, mask, starts, t, work, spare);
+    expand::complete_root(s, mask, t, work, spare, 0, bounds);
+    let end = turns::run(s, mask, starts, t, work, spare, bounds);
     answered(s, starts, work, end, out)
 }
 
@@ -112,7 +127,9 @@ fn accepted(s: &[u8], work: &mut [u32], out: &mut [u16]) -> SearchAnswer
     }
     let tasks = first.tasks;
     let mut spare = [0u32; 8192];
-    planned(s, &mask, &starts, &t, work, &mut spare, tasks, out)
+    let mut bounds = [0u8; 110592];
+    bounds_of(s, &mask, &mut bounds);
+    planned(s, &mask, &starts, &t, work, &mut spare, tasks, out, &bounds)
 }
 
 // The cause of a refusal, 0 for none.

@@ -105,8 +105,9 @@ fn expanded(
     n: usize,
     cost: usize,
     c: Collision,
+    bounds: &[u8],
 ) -> Turned
-    requires { ⌜ Given (now s) (now mask) (now t) (now work) × (n < made) × (length (now list) ≡ 20480) × Holding (read (now s)) (now work) made latest ⌝ }
+    requires { ⌜ Given (now s) (now mask) (now t) (now work) (now bounds) × (n < made) × (length (now list) ≡ 20480) × Holding (read (now s)) (now work) made latest ⌝ }
     requires { ⌜ Ordered (read (now s)) (now work) n × Good (read (now s)) (sides c .0) × Good (read (now s)) (sides c .1) ⌝ }
     ensures { λ r. ⌜ ((opened : Nodes) (rest : List (List ℕ)) → Held (read (now (s .entry))) (now (work .entry)) made latest (record { opened = opened; made = made; rest = rest }) → TurnedTo (read (now (s .entry))) (now (work .exit)) made r (makeEach (problem (read (now (s .entry)))) (read (now (s .entry)) .limit) cost (nodeAt (read (now (s .entry))) (now (work .entry)) n) (sides c) rest (record { opened = opened; made = made; rest = restAfter (problem (read (now (s .entry)))) (nodeAt (read (now (s .entry))) (now (work .entry)) n .root) rest }))) ⌝ }
 {
@@ -124,6 +125,7 @@ fn expanded(
         n,
         first,
         second,
+        bounds,
     );
     match grown {
         Grown::Made { made: k, latest: l } => Turned::More { made: k, latest: l },
@@ -142,8 +144,9 @@ fn turn(
     list: &mut [u16],
     made: usize,
     latest: usize,
+    bounds: &[u8],
 ) -> Turned
-    requires { ⌜ Given (now s) (now mask) (now t) (now work) × StartsOf (read (now s)) (now starts) × (length (now list) ≡ 20480) ⌝ }
+    requires { ⌜ Given (now s) (now mask) (now t) (now work) (now bounds) × StartsOf (read (now s)) (now starts) × (length (now list) ≡ 20480) ⌝ }
     requires { ⌜ ((st : State (List ℕ) Constraint) × (k : ℕ) × Turning (read (now s)) (now work) made latest k st) ⌝ }
     ensures { λ r. ⌜ ((st : State (List ℕ) Constraint) (k : ℕ) → Turning (read (now (s .entry))) (now (work .entry)) made latest k st → TurnedTo (read (now (s .entry))) (now (work .exit)) made r (turn (problem (read (now (s .entry)))) (read (now (s .entry)) .limit) cheapest st)) ⌝ }
 {
@@ -155,7 +158,20 @@ fn turn(
     let CollisionAnswer::Found(c) = collision_of(s, starts, work, n) else {
         return Turned::Plan { n, cost };
     };
-    expanded(s, mask, t, work, spare, list, made, latest, n, cost, c)
+    expanded(
+        s,
+        mask,
+        t,
+        work,
+        spare,
+        list,
+        made,
+        latest,
+        n,
+        cost,
+        c,
+        bounds,
+    )
 }
 
 // The turns, from the first root on.
@@ -166,8 +182,9 @@ pub fn run(
     t: &[u16; 144],
     work: &mut [u32],
     spare: &mut [u32; 8192],
+    bounds: &[u8],
 ) -> End
-    requires { ⌜ Given (now s) (now mask) (now t) (now work) × StartsOf (read (now s)) (now starts) ⌝ }
+    requires { ⌜ Given (now s) (now mask) (now t) (now work) (now bounds) × StartsOf (read (now s)) (now starts) ⌝ }
     requires { ⌜ ((a : List ℕ) × (rest : List (List ℕ)) × (problem (read (now s)) .assignments ≡ a ∷ rest) × Held (read (now s)) (now work) 1 1 (record { opened = rootOf (problem (read (now s))) a ∷ []; made = 1; rest = rest })) ⌝ }
     ensures { λ r. ⌜ EndedWith (read (now (s .entry))) (now (work .exit)) r (planFor (read (now (s .entry)))) ⌝ }
 {
@@ -176,7 +193,18 @@ pub fn run(
     let mut made = 1;
     let mut latest = 1;
     for _ in 0..limit + 1 {
-        match turn(s, mask, starts, t, work, spare, &mut list, made, latest) {
+        match turn(
+            s,
+            mask,
+            starts,
+            t,
+            work,
+            spare,
+            &mut list,
+            made,
+            latest,
+            bounds,
+        ) {
             Turned::More { made: k, latest: l } => {
                 made = k;
                 latest = l;

@@ -16,12 +16,12 @@ use Rattle.expand.proofs.complete_root.Statement.{statement}
 use Rattle.expand.proofs.complete_root.Tie as tie
 
 abbrev Inv-loop : tie.InvT-loop
-Inv-loop s mask t work₀ spare₀ made m i₀ work spare i =
+Inv-loop s mask t work₀ spare₀ made bounds m i₀ work spare i =
     (i ≤ m) × (length work ≡ length work₀) × Same (read s) work₀ work made
     × ((a : List ℕ) (st : State (List ℕ) Constraint) → Begun (read s) work₀ made a 0 st → Begun (read s) work made a i st)
 
 abbrev μ-loop : tie.MeasureT-loop
-μ-loop s mask t work₀ spare₀ made m i₀ work spare i = m - i
+μ-loop s mask t work₀ spare₀ made bounds m i₀ work spare i = m - i
 
 byte-at-requires : tie.Need-byte-at-requires Inv-loop μ-loop
 byte-at-requires c κs = search needs
@@ -31,7 +31,7 @@ loop-holds c = (omega arith, refl, λ k h. refl, λ a st b. b)
 
 root-path-requires : tie.Need-root-path-requires Inv-loop μ-loop
 root-path-requires c κs =
-    let q = c .before .before .before .before .before .before .before .pre in
+    let q = c .before .before .before .before .before .before .before .before .pre in
     let l = c .before .before .before .loop in
     ((given-kept (q .0) (l .inv .1), omega (arith, c .before .before .before .before .byte-at .ensures .0, c .before .before .loop-test .taken)), (q .1 .0, q .1 .1, l .inv .3 (q .1 .0) (q .1 .1) (q .1 .2)))
 
@@ -47,7 +47,7 @@ loop-again c =
     let r = c .before .before .root-path in (
       omega arith,
       omega (arith, r .kept .1 .1 .1 .0, v .1),
-      same-then (read (c .before .before .before .before .before .before .before .before .before .before .args .s .now)) (c .before .before .before .before .before .before .before .before .before .before .args .work .now) (c .before .before .before .before .before .before .loop .work) (r .last .1 .1 .1 .0) (c .before .before .before .before .before .before .before .before .before .before .args .made) (v .2) (r .ensures .1),
+      same-then (read (c .before .before .before .before .before .before .before .before .before .before .before .args .s .now)) (c .before .before .before .before .before .before .before .before .before .before .before .args .work .now) (c .before .before .before .before .before .before .loop .work) (r .last .1 .1 .1 .0) (c .before .before .before .before .before .before .before .before .before .before .before .args .made) (v .2) (r .ensures .1),
       λ a st b. r .ensures .0 a st (v .3 a st b),
     )
 
@@ -56,7 +56,7 @@ word-at-requires c κs = search needs
 
 open-root-requires : tie.Need-open-root-requires Inv-loop μ-loop
 open-root-requires c κs =
-    let q = c .before .before .before .before .before .before .before .pre in
+    let q = c .before .before .before .before .before .before .before .before .pre in
     let e = c .word-at .ensures .0 in (
       omega (arith, e, q .1 .2 .within),
       omega (arith, e, limit-low (q .0)),
@@ -68,13 +68,13 @@ same-length c = omega (arith, c .before .before .open-root .kept .0, c .before .
 
 returns : tie.Need-returns Inv-loop μ-loop
 returns c =
-    let q = c .before .before .before .before .before .before .before .before .before .before .pre in
+    let q = c .before .before .before .before .before .before .before .before .before .before .before .pre in
     let l = c .before .before .before .before .before .before .loop in
     let o = c .before .before .open-root in
-    let f = accepted-fits (c .before .before .before .before .before .before .before .before .before .before .args .s .now) (q .0 .accepted) in
-    let full : l .i ≡ read (c .before .before .before .before .before .before .before .before .before .before .args .s .now) .count = omega (arith, c .before .before .before .before .before .before .before .byte-at .ensures .0, c .before .before .before .before .before .loop-test .left) in (
+    let f = accepted-fits (c .before .before .before .before .before .before .before .before .before .before .before .args .s .now) (q .0 .accepted) in
+    let full : l .i ≡ read (c .before .before .before .before .before .before .before .before .before .before .before .args .s .now) .count = omega (arith, c .before .before .before .before .before .before .before .byte-at .ensures .0, c .before .before .before .before .before .loop-test .left) in (
       λ a st b. root-held f (l .inv .3 a st b) full (c .before .before .before .word-at .ensures .0) (o .ensures .0) (o .ensures .1),
-      same-then (read (c .before .before .before .before .before .before .before .before .before .before .args .s .now)) (c .before .before .before .before .before .before .before .before .before .before .args .work .now) (l .work) (o .last .0) (c .before .before .before .before .before .before .before .before .before .before .args .made) (l .inv .2)
+      same-then (read (c .before .before .before .before .before .before .before .before .before .before .before .args .s .now)) (c .before .before .before .before .before .before .before .before .before .before .before .args .work .now) (l .work) (o .last .0) (c .before .before .before .before .before .before .before .before .before .before .before .args .made) (l .inv .2)
           (root-held-same f (l .inv .3 (q .1 .0) (q .1 .1) (q .1 .2)) full (c .before .before .before .word-at .ensures .0) (o .ensures .0) (o .ensures .1)),
     )
 

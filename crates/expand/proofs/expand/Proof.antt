@@ -21,16 +21,16 @@ same-length c = search needs
 
 returns : tie.Need-returns
 returns c =
-    let pre = c .before .before .before .before .before .before .before .before .before .before .pre in
-    let a = c .before .before .before .before .before .before .before .before .before .before .args in
+    let pre = c .before .before .before .before .before .before .before .before .before .before .before .pre in
+    let a = c .before .before .before .before .before .before .before .before .before .before .before .args in
     let root = c .before .before .before .before .next-root in
     λ opened rest bound h.
     spent-first (read (now (a .s))) (now (a .work)) _ (a .made) (a .latest) (a .n) (pre .0 .1) (a .first .constraint) (a .second .constraint) (root .result) (root .ensures .0) opened rest bound h (c .enum-told .given .1)
 
 make-child-requires : tie.Need-make-child-requires
 make-child-requires c κs =
-    let pre = c .before .before .before .before .before .before .before .before .before .before .before .before .before .before .pre in
-    let a = c .before .before .before .before .before .before .before .before .before .before .before .before .before .before .args in
+    let pre = c .before .before .before .before .before .before .before .before .before .before .before .before .before .before .before .pre in
+    let a = c .before .before .before .before .before .before .before .before .before .before .before .before .before .before .before .args in
     let root = c .before .before .before .before .before .before .before .before .next-root in (
       first-branch (pre .0 .0) (pre .0 .1) (pre .0 .3) (pre .1 .0) (c .before .before .before .before .k .given .1) (root .ensures .0) (root .ensures .1) (root .kept .1 .1 .1 .0) (pre .1 .1) (pre .1 .2),
       pre .0 .2,
@@ -50,8 +50,8 @@ same-length-3 c = search needs
 
 returns-2 : tie.Need-returns-2
 returns-2 c =
-    let pre = c .before .before .before .before .before .before .before .before .before .before .before .before .before .before .before .before .before .before .before .before .before .pre in
-    let a = c .before .before .before .before .before .before .before .before .before .before .before .before .before .before .before .before .before .before .before .before .before .args in
+    let pre = c .before .before .before .before .before .before .before .before .before .before .before .before .before .before .before .before .before .before .before .before .before .before .pre in
+    let a = c .before .before .before .before .before .before .before .before .before .before .before .before .before .before .before .before .before .before .before .before .before .before .args in
     let root = c .before .before .before .before .before .before .before .before .before .before .before .before .before .before .before .next-root in
     let one = c .before .before .before .before .before .before .make-child in
     λ opened rest bound h.
@@ -60,7 +60,7 @@ returns-2 c =
 
 make-child-requires-2 : tie.Need-make-child-requires-2
 make-child-requires-2 c κs =
-    let pre = c .before .before .before .before .before .before .before .before .before .before .before .before .before .before .before .before .before .before .before .before .before .before .before .before .before .pre in
+    let pre = c .before .before .before .before .before .before .before .before .before .before .before .before .before .before .before .before .before .before .before .before .before .before .before .before .before .before .pre in
     let root = c .before .before .before .before .before .before .before .before .before .before .before .before .before .before .before .before .before .before .before .next-root in
     let one = c .before .before .before .before .before .before .before .before .before .before .make-child in
     let x = first-branch (pre .0 .0) (pre .0 .1) (pre .0 .3) (pre .1 .0) (c .before .before .before .before .before .before .before .before .before .before .before .before .before .before .before .k .given .1) (root .ensures .0) (root .ensures .1) (root .kept .1 .1 .1 .0) (pre .1 .1) (pre .1 .2) in (
@@ -76,8 +76,8 @@ same-length-5 c = search needs
 
 returns-3 : tie.Need-returns-3
 returns-3 c =
-    let pre = c .before .before .before .before .before .before .before .before .before .before .before .before .before .before .before .before .before .before .before .before .before .before .before .before .before .before .before .before .before .before .pre in
-    let a = c .before .before .before .before .before .before .before .before .before .before .before .before .before .before .before .before .before .before .before .before .before .before .before .before .before .before .before .before .before .before .args in
+    let pre = c .before .before .before .before .before .before .before .before .before .before .before .before .before .before .before .before .before .before .before .before .before .before .before .before .before .before .before .before .before .before .before .pre in
+    let a = c .before .before .before .before .before .before .before .before .before .before .before .before .before .before .before .before .before .before .before .before .before .before .before .before .before .before .before .before .before .before .before .args in
     let root = c .before .before .before .before .before .before .before .before .before .before .before .before .before .before .before .before .before .before .before .before .before .before .before .before .next-root in
     let one = c .before .before .before .before .before .before .before .before .before .before .before .before .before .before .before .make-child in
     let two = c .before .before .before .before .make-child2 in

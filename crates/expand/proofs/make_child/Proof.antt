@@ -22,7 +22,7 @@ slice-aggregate-child-path c = search needs
 
 child-path-requires : tie.Need-child-path-requires
 child-path-requires c κs =
-    let pre = c .before .before .before .before .before .before .before .before .before .before .pre in
+    let pre = c .before .before .before .before .before .before .before .before .before .before .before .pre in
     ((_, _, pre .0), (pre .1, omega (arith, horizon-range _ (pre .0 .accepted))))
 
 enum-known-finish : tie.Need-enum-known-finish
@@ -36,7 +36,7 @@ same-length-2 c = search needs
 
 returns : tie.Need-returns
 returns c =
-    let x = c .before .before .before .before .before .before .before .before .before .before .before .before .before .before .before .before .before .pre .0 in
+    let x = c .before .before .before .before .before .before .before .before .before .before .before .before .before .before .before .before .before .before .pre .0 in
     let path = c .before .before .before .before .before .before .child-path in (
       not-made x _ (path .ensures .1 .1) (no-path x _ (path .ensures .1 .1) (path .result) (path .ensures .0) (c .match .keys2)),
       path-same x _ (path .ensures .1 .1),
@@ -50,7 +50,7 @@ same-length-4 c = search needs
 
 returns-2 : tie.Need-returns-2
 returns-2 c =
-    let x = c .before .before .before .before .before .before .before .before .before .before .before .before .before .before .before .before .before .before .before .before .pre .0 in
+    let x = c .before .before .before .before .before .before .before .before .before .before .before .before .before .before .before .before .before .before .before .before .before .pre .0 in
     let path = c .before .before .before .before .before .before .before .before .before .child-path in
     let found = a-path x _ (path .ensures .1 .1) (path .result) (path .ensures .0) _ (c .before .before .finish .given .1) in (
       none-left x _ (path .ensures .1 .1) (found .0) (found .1) (omega (arith, c .before .before .before .before .before .before .before .before .before .before .before .before .before .before .word-at .ensures .0)),
@@ -68,7 +68,7 @@ slice-aggregate-make-child c = sym (length-take-le _ _ (omega (arith, c .before 
 
 make-child-requires : tie.Need-make-child-requires
 make-child-requires c κs =
-    let pre = c .before .before .before .before .before .before .before .before .before .before .before .before .before .before .before .before .before .before .before .before .before .before .pre in
+    let pre = c .before .before .before .before .before .before .before .before .before .before .before .before .before .before .before .before .before .before .before .before .before .before .before .pre in
     let path = c .before .before .before .before .before .before .before .before .before .before .before .child-path in
     let word = c .before .before .before .before .before .before .before .before .before .before .before .before .before .before .before .before .word-at in
     let x = pre .0 in
@@ -88,9 +88,9 @@ make-child-requires c κs =
       ),
     )
 
-add-t27 : tie.Need-add-t27
-add-t27 c =
-    let x = c .before .before .before .before .before .before .before .before .before .before .before .before .before .before .before .before .before .before .before .before .before .before .before .before .before .pre .0 in
+add-t28 : tie.Need-add-t28
+add-t28 c =
+    let x = c .before .before .before .before .before .before .before .before .before .before .before .before .before .before .before .before .before .before .before .before .before .before .before .before .before .before .pre .0 in
     omega (arith, x .held .1 .within, limit-range _ (x .accepted))
 
 same-length-5 : tie.Need-same-length-5
@@ -101,7 +101,7 @@ same-length-6 c = search needs
 
 returns-3 : tie.Need-returns-3
 returns-3 c =
-    let x = c .before .before .before .before .before .before .before .before .before .before .before .before .before .before .before .before .before .before .before .before .before .before .before .before .before .pre .0 in
+    let x = c .before .before .before .before .before .before .before .before .before .before .before .before .before .before .before .before .before .before .before .before .before .before .before .before .before .before .pre .0 in
     let path = c .before .before .before .before .before .before .before .before .before .before .before .before .before .before .child-path in
     let word = c .before .before .before .before .before .before .before .before .before .before .before .before .before .before .before .before .before .before .before .word-at in
     let found = a-path x _ (path .ensures .1 .1) (path .result) (path .ensures .0) _ (c .before .before .before .before .before .before .before .finish .given .1) in
@@ -132,7 +132,7 @@ make-child-spec =
     array-share-prefix-path
     slice-aggregate-make-child
     make-child-requires
-    add-t27
+    add-t28
     same-length-5
     same-length-6
     returns-3)

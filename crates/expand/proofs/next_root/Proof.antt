@@ -15,15 +15,15 @@ use Rattle.expand.proofs.next_root.Tie as tie
 
 is-root-requires : tie.Need-is-root-requires
 is-root-requires c κs =
-    let q = c .before .before .before .pre in
-    room-record (q .0) (c .before .before .before .args .n) (omega (arith, q .1, q .2 .1 .within))
+    let q = c .before .before .before .before .pre in
+    room-record (q .0) (c .before .before .before .before .args .n) (omega (arith, q .1, q .2 .1 .within))
 
 same-length : tie.Need-same-length
 same-length c = search needs
 
 returns : tie.Need-returns
 returns c =
-    let u = c .before .before .before .before .before .args in (
+    let u = c .before .before .before .before .before .before .args in (
       λ opened rest bound h.
           no-root (read (u .s .now)) (u .work .now) (u .made) (u .latest) bound (nodeAt (read (u .s .now)) (u .work .now) (u .n) .root) opened rest
           (is-no-root (read (u .s .now)) (u .work .now) (u .n) (c .before .is-root .result) (c .before .is-root .ensures) (c .if1 .taken)) h,
@@ -35,7 +35,7 @@ byte-at-requires c κs = search needs
 
 next-slot-requires : tie.Need-next-slot-requires
 next-slot-requires c κs =
-    let q = c .before .before .before .before .before .before .before .pre in
+    let q = c .before .before .before .before .before .before .before .before .pre in
     let m = c .before .byte-at .ensures .0 in
     (few-carriers (q .0) (q .2 .1) m, latest-room (q .0) (q .2 .1), slots-fall (q .0) (q .2 .1) m)
 
@@ -50,8 +50,8 @@ same-length-2 c = search needs
 
 returns-2 : tie.Need-returns-2
 returns-2 c =
-    let u = c .before .before .before .before .before .before .before .before .before .before .args in
-    let q = c .before .before .before .before .before .before .before .before .before .before .pre in (
+    let u = c .before .before .before .before .before .before .before .before .before .before .before .args in
+    let q = c .before .before .before .before .before .before .before .before .before .before .before .pre in (
       λ opened rest bound h.
           none-remain (read (u .s .now)) (u .work .now) (u .made) (u .latest) bound (nodeAt (read (u .s .now)) (u .work .now) (u .n) .root) opened rest
           (is-root (read (u .s .now)) (u .work .now) (u .n) (c .before .before .before .before .before .before .is-root .result) (c .before .before .before .before .before .before .is-root .ensures) (c .before .before .before .before .before .if1 .left))
@@ -67,8 +67,8 @@ same-length-3 c = search needs
 
 returns-3 : tie.Need-returns-3
 returns-3 c =
-    let u = c .before .before .before .before .before .before .before .before .before .before .before .before .before .args in
-    let q = c .before .before .before .before .before .before .before .before .before .before .before .before .before .pre in (
+    let u = c .before .before .before .before .before .before .before .before .before .before .before .before .before .before .args in
+    let q = c .before .before .before .before .before .before .before .before .before .before .before .before .before .before .pre in (
       λ opened rest bound h.
           let l = with-slot (q .0) h (c .before .before .before .before .before .before .before .byte-at .ensures .0) (c .before .before .before .before .before .next-slot .result) _ _ (c .before .before .before .before .before .next-slot .ensures) (c .before .before .before .from .given .1) in
           none-more (read (u .s .now)) (u .work .now) (u .made) (u .latest) bound (nodeAt (read (u .s .now)) (u .work .now) (u .n) .root) opened rest (l .0) (l .1)
@@ -79,13 +79,13 @@ returns-3 c =
 
 next-root-requires : tie.Need-next-root-requires
 next-root-requires c κs =
-    let q = c .before .before .before .before .before .before .before .before .before .before .before .before .before .before .pre in
+    let q = c .before .before .before .before .before .before .before .before .before .before .before .before .before .before .before .pre in
     let h = q .2 .1 in
     let m = c .before .before .before .before .before .before .before .before .byte-at .ensures .0 in
-    let less : c .before .before .before .before .before .before .before .before .before .before .before .before .before .before .args .made < read (c .before .before .before .before .before .before .before .before .before .before .before .before .before .before .args .s .now) .limit = omega (arith, h .within, c .before .before .word-at .ensures .0, c .before .if2 .left) in (
-      (few-carriers (q .0) h m, h .recent, omega (arith, limit-low (q .0)), room-record (q .0) (c .before .before .before .before .before .before .before .before .before .before .before .before .before .before .args .made) less),
+    let less : c .before .before .before .before .before .before .before .before .before .before .before .before .before .before .before .args .made < read (c .before .before .before .before .before .before .before .before .before .before .before .before .before .before .before .args .s .now) .limit = omega (arith, h .within, c .before .before .word-at .ensures .0, c .before .if2 .left) in (
+      (few-carriers (q .0) h m, h .recent, omega (arith, limit-low (q .0)), room-record (q .0) (c .before .before .before .before .before .before .before .before .before .before .before .before .before .before .before .args .made) less),
       (
-        subst (ChosenOf (c .before .before .before .before .before .before .before .before .byte-at .result) (c .before .before .before .before .before .before .before .before .before .before .before .before .before .before .args .work .now) (c .before .before .before .before .before .before .before .before .before .before .before .before .before .before .args .latest) (slotsAt (c .before .before .before .before .before .before .before .before .byte-at .result) (c .before .before .before .before .before .before .before .before .before .before .before .before .before .before .args .work .now) (c .before .before .before .before .before .before .before .before .before .before .before .before .before .before .args .latest)))
+        subst (ChosenOf (c .before .before .before .before .before .before .before .before .byte-at .result) (c .before .before .before .before .before .before .before .before .before .before .before .before .before .before .before .args .work .now) (c .before .before .before .before .before .before .before .before .before .before .before .before .before .before .before .args .latest) (slotsAt (c .before .before .before .before .before .before .before .before .byte-at .result) (c .before .before .before .before .before .before .before .before .before .before .before .before .before .before .before .args .work .now) (c .before .before .before .before .before .before .before .before .before .before .before .before .before .before .before .args .latest)))
             (c .before .before .before .before .from .given .1) (c .before .before .before .before .before .before .next-slot .ensures),
         (q .2 .0 .rest, slots-asked (q .0) h m),
       ),
@@ -93,27 +93,27 @@ next-root-requires c κs =
 
 complete-root-requires : tie.Need-complete-root-requires
 complete-root-requires c κs =
-    let q = c .before .before .before .before .before .before .before .before .before .before .before .before .before .before .before .before .before .before .before .pre in
+    let q = c .before .before .before .before .before .before .before .before .before .before .before .before .before .before .before .before .before .before .before .before .pre in
     let h = q .2 .1 in
     let m = c .before .before .before .before .before .before .before .before .before .before .before .before .before .byte-at .ensures .0 in
     let r = c .before .before .before .before .next-root in
-    let less : c .before .before .before .before .before .before .before .before .before .before .before .before .before .before .before .before .before .before .before .args .made < read (c .before .before .before .before .before .before .before .before .before .before .before .before .before .before .before .before .before .before .before .args .s .now) .limit = omega (arith, h .within, c .before .before .before .before .before .before .before .word-at .ensures .0, c .before .before .before .before .before .before .if2 .left) in
+    let less : c .before .before .before .before .before .before .before .before .before .before .before .before .before .before .before .before .before .before .before .before .args .made < read (c .before .before .before .before .before .before .before .before .before .before .before .before .before .before .before .before .before .before .before .before .args .s .now) .limit = omega (arith, h .within, c .before .before .before .before .before .before .before .word-at .ensures .0, c .before .before .before .before .before .before .if2 .left) in
     let n = next-begun (q .0) h m less (r .ensures .0) (r .ensures .1 (q .2 .0 .rest) (slots-asked (q .0) h m)) in
-    (given-kept (q .0) (r .kept .0), (n .0, heldState (q .2 .0 .opened) (c .before .before .before .before .before .before .before .before .before .before .before .before .before .before .before .before .before .before .before .args .made) (n .1), n .3))
+    (given-kept (q .0) (r .kept .0), (n .0, heldState (q .2 .0 .opened) (c .before .before .before .before .before .before .before .before .before .before .before .before .before .before .before .before .before .before .before .before .args .made) (n .1), n .3))
 
-add-t19 : tie.Need-add-t19
-add-t19 c = omega (arith, c .before .before .before .before .before .before .before .before .before .before .before .before .before .before .before .before .before .before .before .before .before .before .pre .2 .1 .within, limit-low (c .before .before .before .before .before .before .before .before .before .before .before .before .before .before .before .before .before .before .before .before .before .before .pre .0))
+add-t20 : tie.Need-add-t20
+add-t20 c = omega (arith, c .before .before .before .before .before .before .before .before .before .before .before .before .before .before .before .before .before .before .before .before .before .before .before .pre .2 .1 .within, limit-low (c .before .before .before .before .before .before .before .before .before .before .before .before .before .before .before .before .before .before .before .before .before .before .before .pre .0))
 
-add-t27 : tie.Need-add-t27
-add-t27 c = omega (arith, c .before .before .before .before .before .before .before .before .before .before .before .before .before .before .before .before .before .before .before .before .before .before .pre .2 .1 .within, limit-low (c .before .before .before .before .before .before .before .before .before .before .before .before .before .before .before .before .before .before .before .before .before .before .pre .0))
+add-t28 : tie.Need-add-t28
+add-t28 c = omega (arith, c .before .before .before .before .before .before .before .before .before .before .before .before .before .before .before .before .before .before .before .before .before .before .before .pre .2 .1 .within, limit-low (c .before .before .before .before .before .before .before .before .before .before .before .before .before .before .before .before .before .before .before .before .before .before .before .pre .0))
 
 same-length-4 : tie.Need-same-length-4
 same-length-4 c = search needs
 
 returns-4 : tie.Need-returns-4
 returns-4 c =
-    let u = c .before .before .before .before .before .before .before .before .before .before .before .before .before .before .before .before .before .before .before .before .before .before .args in
-    let q = c .before .before .before .before .before .before .before .before .before .before .before .before .before .before .before .before .before .before .before .before .before .before .pre in
+    let u = c .before .before .before .before .before .before .before .before .before .before .before .before .before .before .before .before .before .before .before .before .before .before .before .args in
+    let q = c .before .before .before .before .before .before .before .before .before .before .before .before .before .before .before .before .before .before .before .before .before .before .before .pre in
     let m = c .before .before .before .before .before .before .before .before .before .before .before .before .before .before .before .before .byte-at .ensures .0 in
     let r = c .before .before .before .before .before .before .before .next-root in
     let o = c .before .before .complete-root in
@@ -145,7 +145,7 @@ next-root-spec =
     returns-3
     next-root-requires
     complete-root-requires
-    add-t19
-    add-t27
+    add-t20
+    add-t28
     same-length-4
     returns-4)

@@ -22,16 +22,16 @@ byte-at-requires-2 c κs = search needs
 
 task-of-requires : tie.Need-task-of-requires
 task-of-requires c κs =
-    let u = c .before .before .before .before .before .args in
-    let q = c .before .before .before .before .before .pre in (
+    let u = c .before .before .before .before .before .before .args in
+    let q = c .before .before .before .before .before .before .pre in (
       room-record (q .0 .0) (u .n) (q .1 .2 .within),
       omega (arith, q .0 .1, count-range (u .s .now) (q .0 .0 .accepted)),
     )
 
 entry-requires : tie.Need-entry-requires
 entry-requires c κs =
-    let u = c .before .before .before .before .before .before .args in
-    let q = c .before .before .before .before .before .before .pre in
+    let u = c .before .before .before .before .before .before .before .args in
+    let q = c .before .before .before .before .before .before .before .pre in
     let n = count-range (u .s .now) (q .0 .0 .accepted) in (
       omega (arith, q .0 .1, n),
       omega (arith, n, task-in (u .i) (q .0 .0) (q .0 .1) (q .1 .2) (c .task-of .ensures)),
@@ -51,13 +51,14 @@ slice-aggregate-least-2 c = search needs
 
 least-requires : tie.Need-least-requires
 least-requires c κs =
-    let u = c .before .before .before .before .before .before .before .before .before .before .before .before .args in
-    let q = c .before .before .before .before .before .before .before .before .before .before .before .before .pre in
+    let u = c .before .before .before .before .before .before .before .before .before .before .before .before .before .args in
+    let q = c .before .before .before .before .before .before .before .before .before .before .before .before .before .pre in
     let j = c .before .before .before .before .before .before .task-of in (
       root-ready (u .i) (q .0 .0) (q .0 .1) (q .1 .2) (j .ensures),
       root-bound (u .i) (q .0 .0) (q .0 .1) (q .1 .2) (j .ensures) (c .before .before .before .before .wide .ensures .0 ∙ c .before .before .before .before .before .entry .ensures),
       q .0 .0 .room,
       omega (arith, horizon-range (u .s .now) (q .0 .0 .accepted)),
+      q .0 .0 .bounded,
     )
 
 enum-known-finish : tie.Need-enum-known-finish
@@ -72,8 +73,8 @@ never x e k = absurd (⊎-elim (λ h. omega arith) (λ h. omega arith) k)
 
 returns : tie.Need-returns
 returns c =
-    let u = c .before .before .before .before .before .before .before .before .before .before .before .before .before .before .before .before .before .args in
-    let q = c .before .before .before .before .before .before .before .before .before .before .before .before .before .before .before .before .before .pre in
+    let u = c .before .before .before .before .before .before .before .before .before .before .before .before .before .before .before .before .before .before .args in
+    let q = c .before .before .before .before .before .before .before .before .before .before .before .before .before .before .before .before .before .before .pre in
     let j = c .before .before .before .before .before .before .before .before .before .before .before .task-of in
     let l = c .before .before .before .before .least in
     never _ (ap (λ (r : PathAnswer). tagOf the-type r)
@@ -88,8 +89,8 @@ array-share-prefix-path c = search needs
 
 slice-aggregate-put-path : tie.Need-slice-aggregate-put-path
 slice-aggregate-put-path c =
-    let u = c .before .before .before .before .before .before .before .before .before .before .before .before .before .before .before .before .before .before .before .before .before .args in
-    let q = c .before .before .before .before .before .before .before .before .before .before .before .before .before .before .before .before .before .before .before .before .before .pre in
+    let u = c .before .before .before .before .before .before .before .before .before .before .before .before .before .before .before .before .before .before .before .before .before .before .args in
+    let q = c .before .before .before .before .before .before .before .before .before .before .before .before .before .before .before .before .before .before .before .before .before .before .pre in
     let j = c .before .before .before .before .before .before .before .before .before .before .before .before .before .before .before .task-of in
     let l = c .before .before .before .before .before .before .before .before .least in
     path-long (u .i) (q .0 .0) (q .0 .1) (q .1 .2) (j .ensures) (replicate 256 0) (l .ensures .1 .0)
@@ -97,8 +98,8 @@ slice-aggregate-put-path c =
 
 put-path-requires : tie.Need-put-path-requires
 put-path-requires c κs =
-    let u = c .before .before .before .before .before .before .before .before .before .before .before .before .before .before .before .before .before .before .before .before .before .args in
-    let q = c .before .before .before .before .before .before .before .before .before .before .before .before .before .before .before .before .before .before .before .before .before .pre in
+    let u = c .before .before .before .before .before .before .before .before .before .before .before .before .before .before .before .before .before .before .before .before .before .before .args in
+    let q = c .before .before .before .before .before .before .before .before .before .before .before .before .before .before .before .before .before .before .before .before .before .before .pre in
     let j = c .before .before .before .before .before .before .before .before .before .before .before .before .before .before .before .task-of in
     let l = c .before .before .before .before .before .before .before .before .least in (
       omega (arith, room-record (q .0 .0) (u .n) (q .1 .2 .within), l .kept .1 .1 .1 .1 .1 .0),
@@ -115,8 +116,8 @@ same-length-2 c = search needs
 
 returns-2 : tie.Need-returns-2
 returns-2 c =
-    let u = c .before .before .before .before .before .before .before .before .before .before .before .before .before .before .before .before .before .before .before .before .before .before .before .before .args in
-    let q = c .before .before .before .before .before .before .before .before .before .before .before .before .before .before .before .before .before .before .before .before .before .before .before .before .pre in
+    let u = c .before .before .before .before .before .before .before .before .before .before .before .before .before .before .before .before .before .before .before .before .before .before .before .before .before .args in
+    let q = c .before .before .before .before .before .before .before .before .before .before .before .before .before .before .before .before .before .before .before .before .before .before .before .before .before .pre in
     let j = c .before .before .before .before .before .before .before .before .before .before .before .before .before .before .before .before .before .before .task-of in
     let l = c .before .before .before .before .before .before .before .before .before .before .before .least in
     let o = c .before .before .before .before .before .before .finish in (

@@ -1,64 +1,42 @@
--- `scratch::least` meets its contract: what the call asks of its words, and the nodes' words stay. Assumes nothing.
+-- `least` meets its contract: the walk's path, or by the passes from the time before which, by the walk, no path finishes. Assumes
+-- nothing.
 use borrow.Author.Needs.{needs}
 use native.Mathlib.Omega.{arith}
-use native.Mathlib.Nat.{mul-le-mul}
-use mathlib.Core.Path.{refl}
-use Prim.Native.Nat.{_+_, _-_, _*_}
+use mathlib.Core.Path.{refl, ap, subst, _∙_}
 use lib.ListN.{length}
-use Rattle.scratch.proofs.Rooms.{two-fit, nodes-inside, spare-room, tail-room, front-kept}
+use Rattle.deck.specs.Sheet.{read}
+use Rattle.deck.specs.Calls.{constraintsOf, pathWritten}
+use Rattle.deck.specs.Paths.{leastPath}
+use Rattle.scratch.specs.Bounded.{SoughtFor}
 use Rattle.scratch.proofs.least.Statement.{statement}
 use Rattle.scratch.proofs.least.Tie as tie
 
-byte-at-requires : tie.Need-byte-at-requires
-byte-at-requires c κs = search needs
+by-walk-requires : tie.Need-by-walk-requires
+by-walk-requires c κs = search needs
 
-add-size : tie.Need-add-size
-add-size c = search needs
+enum-known-finish : tie.Need-enum-known-finish
+enum-known-finish c = search needs
 
-byte-at-requires-2 : tie.Need-byte-at-requires-2
-byte-at-requires-2 c κs = search needs
+enum-known-t : tie.Need-enum-known-t
+enum-known-t c = search needs
 
-mul-size : tie.Need-mul-size
-mul-size c = omega (arith, two-fit (c .before .byte-at .ensures .1) (c .byte-at2 .ensures .1))
-
-byte-at-requires-3 : tie.Need-byte-at-requires-3
-byte-at-requires-3 c κs = search needs
-
-mul-size-2 : tie.Need-mul-size-2
-mul-size-2 c = omega (arith, mul-le-mul (two-fit (c .before .before .byte-at .ensures .1) (c .before .byte-at2 .ensures .1)) (c .byte-at3 .ensures .1))
-
-least-requires : tie.Need-least-requires
-least-requires c κs = (c .before .before .before .before .before .before .before .before .before .before .pre .0, c .before .before .before .before .before .before .before .before .before .before .pre .1, omega (arith, spare-room (c .before .before .before .before .before .before .before .before .before .before .args .s .now) (c .before .before .before .before .before .before .before .before .before .before .args .i) (c .before .before .before .before .before .before .before .before .before .before .args .j) (c .before .before .before .before .before .before .before .before .before .before .args .mask .now) (c .before .before .before .before .before .before .before .before .before .before .args .records .now) (c .before .before .before .before .before .before .before .before .before .before .pre .0) (c .before .before .before .before .before .byte-at .ensures .0) (c .before .before .before .before .byte-at2 .ensures .0) (c .before .before .before .byte-at3 .ensures .0) (c .before .before .if1 .taken)), c .before .before .before .before .before .before .before .before .before .before .pre .3)
+by-passes-requires : tie.Need-by-passes-requires
+by-passes-requires c κs =
+    let u = c .before .before .before .before .before .before .before .before .before .before .before .before .before .before .before .before .args in
+    let p = c .before .before .before .before .before .before .before .before .before .before .before .before .before .before .before .before .pre in
+    let w = c .before .before .before .before .before .before .before .before .by-walk in
+    let q = subst (SoughtFor (read (u .s .now)) (u .i) (u .j) (constraintsOf (u .records .now)) (u .out .now) (w .last .1 .1 .1 .1 .1 .1 .0)) (c .before .before .before .before .t .given .1) (w .ensures) in
+    (p .0, q .0, p .2, omega (arith, p .3, ap length (q .1)))
 
 same-length : tie.Need-same-length
 same-length c = search needs
 
 returns : tie.Need-returns
-returns c = (c .before .before .least .ensures .0, (c .before .before .least .ensures .1, refl))
-
-word-at-requires : tie.Need-word-at-requires
-word-at-requires c κs = search needs
-
-mul-from : tie.Need-mul-from
-mul-from c = search needs
-
-add-from : tie.Need-add-from
-add-from c = search needs
-
-mul-least : tie.Need-mul-least
-mul-least c = search needs
-
-sub-least : tie.Need-sub-least
-sub-least c = nodes-inside (c .before .before .before .before .before .before .before .before .before .args .s .now) (c .word-at .ensures .0) (c .before .before .before .before .before .before .before .before .before .pre .2)
-
-part-least-start : tie.Need-part-least-start
-part-least-start c = nodes-inside (c .before .before .before .before .before .before .before .before .before .args .s .now) (c .word-at .ensures .0) (c .before .before .before .before .before .before .before .before .before .pre .2)
-
-part-least-end : tie.Need-part-least-end
-part-least-end c = search needs
-
-least-requires-2 : tie.Need-least-requires-2
-least-requires-2 c κs = (c .before .before .before .before .before .before .before .before .before .before .before .pre .0, c .before .before .before .before .before .before .before .before .before .before .before .pre .1, tail-room (c .before .before .before .before .before .before .before .before .before .before .before .args .s .now) (c .before .before .before .before .before .before .before .before .before .before .before .args .i) (c .before .before .before .before .before .before .before .before .before .before .before .args .j) (c .before .before .before .before .before .before .before .before .before .before .before .args .mask .now) (c .before .before .before .before .before .before .before .before .before .before .before .args .records .now) (c .before .before .before .before .before .before .before .before .before .before .before .pre .0) (c .before .before .before .before .before .before .byte-at .ensures .0) (c .before .before .before .before .before .byte-at2 .ensures .0) (c .before .before .before .before .byte-at3 .ensures .0) (omega (arith, c .before .before .before .if1 .left)) (c .before .before .word-at .ensures .0) (c .before .before .before .before .before .before .before .before .before .before .before .args .work .now) (c .before .before .before .before .before .before .before .before .before .before .before .pre .2), c .before .before .before .before .before .before .before .before .before .before .before .pre .3)
+returns c =
+    let u = c .before .before .before .before .before .before .before .before .before .before .before .before .before .args in
+    let w = c .before .before .before .before .before .by-walk in
+    let q = subst (SoughtFor (read (u .s .now)) (u .i) (u .j) (constraintsOf (u .records .now)) (u .out .now) (w .last .1 .1 .1 .1 .1 .1 .0)) (c .before .finish .given .1) (w .ensures) in
+    (q .0, (q .1, refl))
 
 same-length-2 : tie.Need-same-length-2
 same-length-2 c = search needs
@@ -67,29 +45,23 @@ same-length-3 : tie.Need-same-length-3
 same-length-3 c = search needs
 
 returns-2 : tie.Need-returns-2
-returns-2 c = (c .before .before .before .before .least2 .ensures .0, (c .before .before .before .before .least2 .ensures .1, front-kept (c .before .before .before .before .before .before .before .before .before .before .before .before .before .before .before .before .args .s .now) (c .before .before .before .before .before .before .before .word-at .ensures .0) (c .before .before .before .before .before .before .before .before .before .before .before .before .before .before .before .before .args .work .now) (c .before .before .before .before .before .before .before .before .before .before .before .before .before .before .before .before .pre .2) (length (c .before .before .before .before .before .before .before .before .before .before .before .before .before .before .before .before .args .work .now) - (512 * c .before .before .before .before .before .before .before .word-at .result + 4096)) (c .before .before .before .before .least2 .last .1 .1 .1 .1 .1 .0)))
+returns-2 c =
+    let u = c .before .before .before .before .before .before .before .before .before .before .before .before .before .before .before .before .before .before .before .before .before .args in
+    let w = c .before .before .before .before .before .before .before .before .before .before .before .before .before .by-walk in
+    let p = c .before .before .before .before .by-passes in
+    let q = subst (SoughtFor (read (u .s .now)) (u .i) (u .j) (constraintsOf (u .records .now)) (u .out .now) (w .last .1 .1 .1 .1 .1 .1 .0)) (c .before .before .before .before .before .before .before .before .before .t .given .1) (w .ensures) in
+    (p .ensures .0, (p .ensures .1 .0 ∙ ap (pathWritten (leastPath (read (u .s .now)) (u .i) (u .j) (constraintsOf (u .records .now)))) (q .1), p .ensures .1 .1))
 
 pub least-spec : {M : Type 1} → statement M
 least-spec =
     tie.close
     (tie.spec
-    byte-at-requires
-    add-size
-    byte-at-requires-2
-    mul-size
-    byte-at-requires-3
-    mul-size-2
-    least-requires
+    by-walk-requires
+    enum-known-finish
+    enum-known-t
+    by-passes-requires
     same-length
     returns
-    word-at-requires
-    mul-from
-    add-from
-    mul-least
-    sub-least
-    part-least-start
-    part-least-end
-    least-requires-2
     same-length-2
     same-length-3
     returns-2)

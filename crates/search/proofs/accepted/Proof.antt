@@ -33,16 +33,25 @@ returns c =
     let e = none-answer (s .args .s .now) (s .pre .0) (c .before .before .before .before .before .before .table .result) (c .before .before .before .before .before .before .table .ensures) (c .before .before .before .before .before .byte-at .result) (c .before .before .before .before .before .byte-at .ensures .0) (c .before .before .before .first .result) (c .before .before .before .first .ensures) (c .before .if1 .taken) in
     (c .without .ensures ∙ none-found (planFor (read (s .args .s .now))) 0 e, none-written (planFor (read (s .args .s .now))) 0 (s .args .out .now) e)
 
+slice-aggregate-bounds-of : tie.Need-slice-aggregate-bounds-of
+slice-aggregate-bounds-of c = search needs
+
+bounds-of-requires : tie.Need-bounds-of-requires
+bounds-of-requires c κs = (c .before .before .before .before .before .before .before .before .before .before .before .before .before .before .before .pre .0, c .before .before .before .before .before .before .before .before .before .before .before .mask-of .ensures, search needs)
+
+slice-aggregate-planned : tie.Need-slice-aggregate-planned
+slice-aggregate-planned c = search needs
+
 planned-requires : tie.Need-planned-requires
 planned-requires c κs =
-    let s = c .before .before .before .before .before .before .before .before .before .before .before .before .before .before .before .before .before .before .before in
-    let table = c .before .before .before .before .before .before .before .before .before .before .before .before .table in (
+    let s = c .before .before .before .before .before .before .before .before .before .before .before .before .before .before .before .before .before .before .before .before .before .before .before .before in
+    let table = c .before .before .before .before .before .before .before .before .before .before .before .before .before .before .before .before .before .table in (
       (
-        record { accepted = s .pre .0; masked = c .before .before .before .before .before .before .before .before .before .before .before .before .before .before .before .mask-of .ensures; table-is = table .ensures; room = s .pre .1 },
-        c .before .before .before .before .before .before .before .before .before .before .before .before .before .before .starts-of .ensures,
+        record { accepted = s .pre .0; masked = c .before .before .before .before .before .before .before .before .before .before .before .before .before .before .before .before .before .before .before .before .mask-of .ensures; table-is = table .ensures; room = s .pre .1; bounded = c .before .before .before .before .before .before .before .before .bounds-of .ensures },
+        c .before .before .before .before .before .before .before .before .before .before .before .before .before .before .before .before .before .before .before .starts-of .ensures,
         s .pre .2,
       ),
-      some-tasks (s .args .s .now) (s .pre .0) (table .result) (table .ensures) (c .before .before .before .before .before .before .before .before .before .before .before .byte-at .result) (c .before .before .before .before .before .before .before .before .before .before .before .byte-at .ensures .0) (c .before .before .before .before .before .before .before .before .before .first .result) (c .before .before .before .before .before .before .before .before .before .first .ensures) (c .before .before .before .before .before .before .before .if1 .left),
+      some-tasks (s .args .s .now) (s .pre .0) (table .result) (table .ensures) (c .before .before .before .before .before .before .before .before .before .before .before .before .before .before .before .before .byte-at .result) (c .before .before .before .before .before .before .before .before .before .before .before .before .before .before .before .before .byte-at .ensures .0) (c .before .before .before .before .before .before .before .before .before .before .before .before .before .before .first .result) (c .before .before .before .before .before .before .before .before .before .before .before .before .before .before .first .ensures) (c .before .before .before .before .before .before .before .before .before .before .before .before .if1 .left),
     )
 
 same-length : tie.Need-same-length
@@ -65,6 +74,9 @@ accepted-spec =
     first-requires
     without-requires
     returns
+    slice-aggregate-bounds-of
+    bounds-of-requires
+    slice-aggregate-planned
     planned-requires
     same-length
     same-length-2

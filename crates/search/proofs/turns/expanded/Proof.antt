@@ -13,7 +13,7 @@ second-side-requires c κs = search needs
 
 expand-requires : tie.Need-expand-requires
 expand-requires c κs =
-    let start = c .before .before .before .before .before .before .before .before in
+    let start = c .before .before .before .before .before .before .before .before .before in
     let first = c .before .before .before .before .first-side in
     let second = c .before .before .before .second-side in (
       start .pre .0,
@@ -34,7 +34,7 @@ same-length-2 c = search needs
 
 returns : tie.Need-returns
 returns c opened rest held =
-    let start = c .before .before .before .before .before .before .before .before .before .before .before .before .before .before .before .before in
+    let start = c .before .before .before .before .before .before .before .before .before .before .before .before .before .before .before .before .before in
     let first = c .before .before .before .before .before .before .before .before .before .before .before .before .first-side in
     let second = c .before .before .before .before .before .before .before .before .before .before .before .second-side in
     let expand = c .before .before .before .before .before .before .before .expand in
@@ -49,7 +49,7 @@ same-length-4 c = search needs
 
 returns-2 : tie.Need-returns-2
 returns-2 c opened rest held =
-    let start = c .before .before .before .before .before .before .before .before .before .before .before .before .before .before .before in
+    let start = c .before .before .before .before .before .before .before .before .before .before .before .before .before .before .before .before in
     let first = c .before .before .before .before .before .before .before .before .before .before .before .first-side in
     let second = c .before .before .before .before .before .before .before .before .before .before .second-side in
     let expand = c .before .before .before .before .before .before .expand in

@@ -11,14 +11,14 @@ use Rattle.search.proofs.turns.run.Statement.{statement}
 use Rattle.search.proofs.turns.run.Tie as tie
 
 abbrev Inv-loop : tie.InvT-loop
-Inv-loop s mask starts t work₀ spare₀ limit list₀ made₀ latest₀ counter₀ end work spare list made latest counter =
+Inv-loop s mask starts t work₀ spare₀ bounds limit list₀ made₀ latest₀ counter₀ end work spare list made latest counter =
     (length work ≡ length work₀) × (length list ≡ 20480) × (counter ≤ end) × Going s work made latest counter
 
 abbrev μ-loop : tie.MeasureT-loop
-μ-loop s mask starts t work₀ spare₀ limit list₀ made₀ latest₀ counter₀ end work spare list made latest counter = end - counter
+μ-loop s mask starts t work₀ spare₀ bounds limit list₀ made₀ latest₀ counter₀ end work spare list made latest counter = end - counter
 
 -- a turn is left
-left : (c : tie.In-loop Inv-loop μ-loop) → c .before .loop .counter < suc (read (c .before .before .before .before .before .args .s .now) .limit)
+left : (c : tie.In-loop Inv-loop μ-loop) → c .before .loop .counter < suc (read (c .before .before .before .before .before .before .args .s .now) .limit)
 left c = omega (arith, c .loop-test .taken, c .before .before .word-at .ensures .0)
 
 word-at-requires : tie.Need-word-at-requires Inv-loop μ-loop
@@ -29,7 +29,7 @@ add-end c = omega (arith, c .word-at .ensures .1)
 
 loop-holds : tie.Need-loop-holds Inv-loop μ-loop
 loop-holds c =
-    let s = c .before .before .before in
+    let s = c .before .before .before .before in
     (refl, refl, omega arith, start-going (s .args .s .now) (s .pre .0 .0 .accepted) (s .args .work .now) (s .pre .1 .0) (s .pre .1 .1) (s .pre .1 .2) (s .pre .1 .3))
 
 slice-aggregate-turn : tie.Need-slice-aggregate-turn Inv-loop μ-loop
@@ -37,10 +37,10 @@ slice-aggregate-turn c = search needs
 
 turn-requires : tie.Need-turn-requires Inv-loop μ-loop
 turn-requires c κs =
-    let s = c .before .before .before .before .before .before .before .before in
+    let s = c .before .before .before .before .before .before .before .before .before in
     let inv = c .before .before .before .before .loop .inv in
     let going = inv .3 in (
-      (given-kept (s .args .s .now) (s .args .mask .now) (s .args .t .now) (s .args .work .now) _ (s .pre .0 .0) (inv .0), s .pre .0 .1, inv .1),
+      (given-kept (s .args .s .now) (s .args .mask .now) (s .args .t .now) (s .args .work .now) (s .args .bounds .now) _ (s .pre .0 .0) (inv .0), s .pre .0 .1, inv .1),
       (going .state, c .before .before .before .before .loop .counter, going .turning),
     )
 
@@ -55,7 +55,7 @@ same-length c = search needs
 
 returns : tie.Need-returns Inv-loop μ-loop
 returns c =
-    let s = c .before .before .before .before .before .before .before .before .before .before .before .before .before .before .before in
+    let s = c .before .before .before .before .before .before .before .before .before .before .before .before .before .before .before .before in
     let loop = c .before .before .before .before .before .before .before .before .before .before .before .loop in
     going-plan (s .args .s .now) (s .pre .0 .0 .accepted) (loop .work) (loop .made) (loop .latest) (loop .counter) (loop .inv .3) (left (c .before .before .before .before .before .before .before .before .before .before)) _ (c .before .before .before .before .before .before .turn .result) (c .before .before .before .before .before .before .turn .ensures) _ _ (c .before .n .given .1)
 
@@ -67,7 +67,7 @@ same-length-2 c = search needs
 
 returns-2 : tie.Need-returns-2 Inv-loop μ-loop
 returns-2 c =
-    let s = c .before .before .before .before .before .before .before .before .before .before .before .before .before .before in
+    let s = c .before .before .before .before .before .before .before .before .before .before .before .before .before .before .before in
     let loop = c .before .before .before .before .before .before .before .before .before .before .loop in
     going-none (s .args .s .now) (s .pre .0 .0 .accepted) (loop .work) (loop .made) (loop .latest) (loop .counter) (loop .inv .3) (left (c .before .before .before .before .before .before .before .before .before)) _ (c .before .before .before .before .before .turn .result) (c .before .before .before .before .before .turn .ensures) (c .enum-told .given .1)
 
@@ -79,7 +79,7 @@ same-length-3 c = search needs
 
 returns-3 : tie.Need-returns-3 Inv-loop μ-loop
 returns-3 c =
-    let s = c .before .before .before .before .before .before .before .before .before .before .before .before .before .before .before in
+    let s = c .before .before .before .before .before .before .before .before .before .before .before .before .before .before .before .before in
     let loop = c .before .before .before .before .before .before .before .before .before .before .before .loop in
     going-spent (s .args .s .now) (s .pre .0 .0 .accepted) (loop .work) (loop .made) (loop .latest) (loop .counter) (loop .inv .3) (left (c .before .before .before .before .before .before .before .before .before .before)) _ (c .before .before .before .before .before .before .turn .result) (c .before .before .before .before .before .before .turn .ensures) _ (c .before .bound .given .1)
 
@@ -91,7 +91,7 @@ loop-less c = omega (arith, c .before .before .before .before .before .before .b
 
 loop-again : tie.Need-loop-again Inv-loop μ-loop
 loop-again c =
-    let s = c .before .before .before .before .before .before .before .before .before .before .before .before .before .before .before in
+    let s = c .before .before .before .before .before .before .before .before .before .before .before .before .before .before .before .before in
     let loop = c .before .before .before .before .before .before .before .before .before .before .before .loop in (
       c .before .before .before .before .before .before .turn .kept .1 .1 .1 .1 .0 ∙ loop .inv .0,
       c .before .before .before .before .before .before .turn .kept .1 .1 .1 .1 .1 .1 .0 ∙ loop .inv .1,
@@ -104,7 +104,7 @@ same-length-4 c = search needs
 
 returns-4 : tie.Need-returns-4 Inv-loop μ-loop
 returns-4 c =
-    let s = c .before .before .before .before .before in
+    let s = c .before .before .before .before .before .before in
     let loop = c .before .loop in
     absurd (going-ends (s .args .s .now) (s .pre .0 .0 .accepted) (loop .work) (loop .made) (loop .latest) (loop .counter) (loop .inv .3) (omega (arith, c .loop-test .left, loop .inv .2, c .before .before .word-at .ensures .0)))
 

@@ -21,10 +21,10 @@ use Rattle.search.proofs.turns.turn.Statement.{statement}
 use Rattle.search.proofs.turns.turn.Tie as tie
 
 -- the pick, by any state that is held
-took : (c : tie.After-close) → let s = c .before .before .before .before .before .before .before .before .before .before .before in (st : St) (k : ℕ) → Turning (read (s .args .s .now)) (s .args .work .now) (s .args .made) (s .args .latest) k st
+took : (c : tie.After-close) → let s = c .before .before .before .before .before .before .before .before .before .before .before .before in (st : St) (k : ℕ) → Turning (read (s .args .s .now)) (s .args .work .now) (s .args .made) (s .args .latest) k st
     → Took (s .args .s .now) (s .args .work .now) (c .close .last .0) (s .args .made) (c .before .before .before .n .given .0 .0) (c .before .before .before .n .given .0 .1 .0)
 took c st k turning =
-    let s = c .before .before .before .before .before .before .before .before .before .before .before in
+    let s = c .before .before .before .before .before .before .before .before .before .before .before .before in
     let limit = c .before .before .before .before .before .before .before .word-at .ensures .0 in
     let pick = c .before .before .before .before .before .cheapest in
     let is = c .before .before .before .n .given .1 in
@@ -39,7 +39,7 @@ word-at-requires c κs = search needs
 
 cheapest-requires : tie.Need-cheapest-requires
 cheapest-requires c κs =
-    let s = c .before .before .before .before .before in
+    let s = c .before .before .before .before .before .before in
     let ok = s .pre .0 .0 .accepted in
     let limit = c .before .word-at .ensures .0 in (
       omega (arith, limit, s .pre .1 .2 .0 .within),
@@ -58,21 +58,21 @@ same-length c = search needs
 
 returns : tie.Need-returns
 returns c st k turning =
-    let s = c .before .before .before .before .before .before .before .before in
+    let s = c .before .before .before .before .before .before .before .before .before in
     let pick = c .before .before .cheapest in
     turn-nothing (read (s .args .s .now)) (s .args .work .now) (s .args .made) (s .args .latest) k st turning
     (pick-is (s .args .s .now) (s .pre .0 .0 .accepted) (s .args .work .now) (s .args .made) (s .args .latest) k st turning _ (c .before .before .before .before .word-at .ensures .0) (pick .result) _ (pick .ensures .1) (c .enum-told .given .1))
 
 close-requires : tie.Need-close-requires
 close-requires c κs =
-    let s = c .before .before .before .before .before .before .before .before .before .before in
+    let s = c .before .before .before .before .before .before .before .before .before .before .before in
     let ok = s .pre .0 .0 .accepted in
     let inside : c .before .before .n .given .0 .0 < s .args .made = subst (InRange (s .args .made)) (c .before .before .n .given .1) (c .before .before .before .before .cheapest .ensures .0) in
     omega (arith, c .before .before .before .before .before .before .word-at .ensures .0, inside, s .pre .1 .2 .0 .within, limit-range (s .args .s .now) ok, room-of (s .args .s .now) ok (s .args .work .now) (s .pre .0 .0 .room))
 
 collision-of-requires : tie.Need-collision-of-requires
 collision-of-requires c κs =
-    let s = c .before .before .before .before .before .before .before .before .before .before .before .before .before .before in
+    let s = c .before .before .before .before .before .before .before .before .before .before .before .before .before .before .before in
     let ok = s .pre .0 .0 .accepted in
     let t = took (c .before .before .before) (s .pre .1 .0) (s .pre .1 .1) (s .pre .1 .2) in
     (ok, s .pre .0 .1, omega (arith, c .before .before .before .close .kept .0, t .inside, s .pre .1 .2 .0 .within, room-of (s .args .s .now) ok (s .args .work .now) (s .pre .0 .0 .room)))
@@ -85,19 +85,19 @@ same-length-2 c = search needs
 
 returns-2 : tie.Need-returns-2
 returns-2 c st k turning =
-    let s = c .before .before .before .before .before .before .before .before .before .before .before .before .before .before .before .before in
+    let s = c .before .before .before .before .before .before .before .before .before .before .before .before .before .before .before .before .before in
     took-plan (s .args .s .now) (s .pre .0 .0 .accepted) (s .args .work .now) (s .args .made) (s .args .latest) k st turning (c .before .before .before .before .before .close .last .0) _ _
     (took (c .before .before .before .before .before) st k turning) (s .pre .0 .0 .room)
     (none-is (λ (r : CollisionAnswer). OneOf (1 ∷ 2 ∷ []) (tagOf the-type r)) (λ x h. ⊎-elim (λ e. omega arith) (λ e. omega arith) h) _ _ (c .before .collision-of .ensures) (c .match2 .keys2))
 
 -- the first collision of the node that was taken
-first : (c : tie.After-known-told2) → let s = c .before .before .before .before .before .before .before .before .before .before .before .before .before .before .before .before .before .before in
+first : (c : tie.After-known-told2) → let s = c .before .before .before .before .before .before .before .before .before .before .before .before .before .before .before .before .before .before .before in
     firstCollision (read (s .args .s .now) .count) (read (s .args .s .now) .horizon) (nodeAt (read (s .args .s .now)) (c .before .before .before .before .before .before .before .close .last .0) (c .before .before .before .before .before .before .before .before .before .before .n .given .0 .0) .paths) ≡ some (c .before .c .given .0 .0)
 first c = found-is _ _ (sym (c .before .c .given .1) ∙ c .before .before .before .collision-of .ensures)
 
 expanded-requires : tie.Need-expanded-requires
 expanded-requires c κs =
-    let s = c .before .before .before .before .before .before .before .before .before .before .before .before .before .before .before .before .before .before .before .before .before in
+    let s = c .before .before .before .before .before .before .before .before .before .before .before .before .before .before .before .before .before .before .before .before .before .before in
     let st = s .pre .1 .0 in
     let k = s .pre .1 .1 in
     let turning = s .pre .1 .2 in
@@ -106,7 +106,7 @@ expanded-requires c κs =
     let room = s .pre .0 .0 .room in
     let good = took-good (s .args .s .now) ok (s .args .work .now) (s .args .made) (s .args .latest) k st turning (c .before .before .before .before .before .before .before .before .before .before .close .last .0) _ _ t room _ (first (c .before .before .before)) in (
       (
-        took-given (s .args .s .now) ok (s .args .work .now) (s .args .made) (s .args .latest) k st turning (c .before .before .before .before .before .before .before .before .before .before .close .last .0) _ _ t room (s .args .mask .now) (s .args .t .now) (s .pre .0 .0),
+        took-given (s .args .s .now) ok (s .args .work .now) (s .args .made) (s .args .latest) k st turning (c .before .before .before .before .before .before .before .before .before .before .close .last .0) _ _ t room (s .args .mask .now) (s .args .t .now) (s .args .bounds .now) (s .pre .0 .0),
         t .inside,
         s .pre .0 .2,
         (_, took-held (s .args .s .now) ok (s .args .work .now) (s .args .made) (s .args .latest) k st turning (c .before .before .before .before .before .before .before .before .before .before .close .last .0) _ _ t room),
@@ -122,7 +122,7 @@ same-length-4 c = search needs
 
 returns-3 : tie.Need-returns-3
 returns-3 c st k turning =
-    let s = c .before .before .before .before .before .before .before .before .before .before .before .before .before .before .before .before .before .before .before .before .before .before .before .before .before .before in
+    let s = c .before .before .before .before .before .before .before .before .before .before .before .before .before .before .before .before .before .before .before .before .before .before .before .before .before .before .before in
     took-turned (s .args .s .now) (s .pre .0 .0 .accepted) (s .args .work .now) (s .args .made) (s .args .latest) k st turning (c .before .before .before .before .before .before .before .before .before .before .before .before .before .before .before .close .last .0) _ _
     (took (c .before .before .before .before .before .before .before .before .before .before .before .before .before .before .before) st k turning) (s .pre .0 .0 .room) _ (first (c .before .before .before .before .before .before .before .before)) (c .before .before .before .before .expanded .last .1 .1 .1 .0) (c .before .before .before .before .expanded .result) (c .before .before .before .before .expanded .ensures)
 
