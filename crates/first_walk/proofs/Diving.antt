@@ -1,6 +1,6 @@
 -- The answer of the walk from a place, by what the code finds. Assumes nothing.
-use Prim.Native.Nat.{ℕ, zero, suc, _+_, _-_, _*_, _%_, _≤_, _<_}
-use mathlib.Core.Path.{_≡_, refl, sym, ap, ap₂, _∙_, subst}
+use Prim.Native.Nat.{ℕ, suc, _+_, _≤_, _<_}
+use mathlib.Core.Path.{_≡_, sym, ap, ap₂, _∙_, subst}
 use mathlib.Core.Logic.{_⊎_, ⊎-elim, _≢_}
 use mathlib.Core.Bool.{Bool, true, false, _&&_}
 use mathlib.Core.List.{List}
@@ -15,9 +15,9 @@ use Rattle.deck.specs.declared.Task.{Task}
 use Rattle.deck.specs.declared.Constraint.{Constraint}
 use Rattle.first_walk.specs.declared.Seek.{Seek}
 use Rattle.first_walk.specs.declared.Tried.{Tried}
-use Rattle.first_walk.specs.declared.Tried.the-variants.{Found, NoWalk, Unknown}
+use Rattle.first_walk.specs.declared.Tried.the-variants.{Found, NoWalk}
 use Rattle.first_walk.specs.Walk.{slotOf, codeOf, Fails, goesBy, Dead, Dived, Led, On, Given}
-use Rattle.first_walk.proofs.Walking.{ends-here, ends-not, goes-on, goes-nowhere, dead-more, led-found, led-none, led-cut}
+use Rattle.first_walk.proofs.Walking.{ends-here, ends-not, goes-on, goes-nowhere, dead-more, led-found}
 use Rattle.first_walk.proofs.Looking.{inside, place-small, label-small}
 
 module _ {s : List ℕ} {i : Carrier} {j : Task} {mask goals rs heads links table : List ℕ} {l : Seek} (g : Given s i j mask goals rs heads links table l)

@@ -1,21 +1,18 @@
 -- A look by one of the five ways: what each test says. Assumes nothing.
-use Prim.Native.Nat.{ℕ, zero, suc, _+_, _-_, _*_, _%_, _≤_, _<_, zero-le}
+use Prim.Native.Nat.{ℕ, zero, suc, _+_, _-_, _*_, _≤_, _<_, zero-le}
 use mathlib.Core.Path.{_≡_, refl, sym, ap, _∙_, subst}
-use mathlib.Core.Logic.{_⊎_, inl, inr, ⊎-elim, _≢_}
+use mathlib.Core.Logic.{_≢_}
 use mathlib.Core.Bool.{Bool, true, false, cond, _&&_}
 use mathlib.Core.List.{List}
 use native.Mathlib.Numerals.{add-one}
 use native.Mathlib.Omega.{arith}
 use lib.ListN.{length, getD}
-use lib.Dec.{T, eqb, ltb, ltb→lt}
+use lib.Dec.{T, eqb, ltb→lt}
 use borrow.Author.Tests.{eqb-true}
-use Rattle.deck.specs.Sheet.{Sheet, read, area, free, goalsOf, lastGoal}
+use Rattle.deck.specs.Sheet.{Sheet, read, area, free, goalsOf}
 use Rattle.deck.specs.Calls.{constraintsOf}
 use Rattle.deck.specs.declared.Carrier.{Carrier}
 use Rattle.deck.specs.declared.Task.{Task}
-use Rattle.deck.specs.declared.Constraint.{Constraint}
-use Rattle.meaning.specs.Meaning.{Free}
-use Rattle.meaning.proofs.Tests.{Says, is-true}
 use Rattle.meaning.proofs.Paths.{free-meant}
 use Rattle.sheet.proofs.Accepted.{area-range}
 use Rattle.kernel.specs.Layers.{Parts, pass, back, good}
@@ -25,17 +22,16 @@ use Rattle.kernel.proofs.Both.{and-left, and-right, and-both}
 use Rattle.kernel.proofs.Labels.{up-le}
 use Rattle.kernel.proofs.OfSheet.{step-free-meant}
 use Rattle.bars.specs.Padded.{padOf}
-use Rattle.bars.proofs.Grid.{pad-least, pad-most, size-of, size-small}
+use Rattle.bars.proofs.Grid.{pad-most, size-of, size-small}
 use Rattle.layers.specs.Raise.{GoalsAt}
 use Rattle.layers.proofs.Around.{step-near}
-use Rattle.passes.specs.Ready.{Ready}
-use Rattle.passes.proofs.Given.{wide-one, wide-most, high-most, horizon-most, few-goals, few-records}
+use Rattle.passes.proofs.Given.{wide-one, wide-most, high-most, horizon-most, few-goals}
 use Rattle.trace.specs.Along.{Visited}
 use Rattle.trace.proofs.Looking.{visited-up}
 use Rattle.first_walk.specs.declared.Seek.{Seek}
-use Rattle.first_walk.specs.declared.Ahead.the-variants.{Shut, To}
-use Rattle.first_walk.specs.Walk.{turnOf, placeBy, hasBy, slotOf, codeOf, Fails, goesBy, Dead, On, Seen, Given}
-use Rattle.first_walk.proofs.Ways.{Leads, leads, layer-by}
+use Rattle.first_walk.specs.declared.Ahead.the-variants.{To}
+use Rattle.first_walk.specs.Walk.{turnOf, placeBy, hasBy, slotOf, codeOf, goesBy, Dead, On, Seen, Given}
+use Rattle.first_walk.proofs.Ways.{leads, layer-by}
 
 turn-most : (w x : ℕ) → 1 ≤ w → turnOf w x ≤ 2 * w
 turn-most w zero l = zero-le

@@ -1,10 +1,10 @@
 -- From the walk that begins on the start to the answer. Assumes nothing.
-use Prim.Native.Nat.{ℕ, zero, suc, _+_, _-_, _≤_, _<_, zero-le}
+use Prim.Native.Nat.{ℕ, suc, _+_, _≤_, zero-le}
 use mathlib.Core.Path.{_≡_, refl, sym, ap, _∙_, subst}
 use mathlib.Core.Bool.{Bool, true, false}
 use mathlib.Core.List.{List}
 use native.Mathlib.Omega.{arith}
-use lib.ListN.{length, replicate}
+use lib.ListN.{length}
 use lib.Dec.{T}
 use Rattle.deck.specs.Sheet.{Sheet, read, startOf, goalsOf, lastGoal}
 use Rattle.deck.specs.Calls.{constraintsOf}
@@ -18,7 +18,7 @@ use Rattle.bars.specs.Padded.{padOf}
 use Rattle.layers.specs.Raise.{GoalsAt}
 use Rattle.layers.specs.Fill.{Filled}
 use Rattle.passes.specs.Ready.{Ready, Goals}
-use Rattle.passes.proofs.Given.{begins-free, wide-one, horizon-most}
+use Rattle.passes.proofs.Given.{begins-free, wide-one}
 use Rattle.trace.specs.Along.{Visited}
 use Rattle.trace.proofs.Looking.{visited-up}
 use Rattle.first_walk.specs.declared.Tried.{Tried}

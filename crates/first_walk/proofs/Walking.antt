@@ -1,30 +1,30 @@
 -- When a state can finish: when a way from it does; and the words that a walk writes. Assumes nothing.
-use Prim.Native.Nat.{ℕ, zero, suc, _+_, _-_, _*_, _%_, _≤_, _<_, zero-le}
+use Prim.Native.Nat.{ℕ, zero, suc, _+_, _-_, _≤_, _<_, zero-le}
 use mathlib.Core.Path.{_≡_, refl, sym, ap, _∙_, subst}
-use mathlib.Core.Logic.{_⊎_, inl, inr, ⊎-elim}
+use mathlib.Core.Logic.{_⊎_, ⊎-elim}
 use mathlib.Core.Bool.{Bool, true, false, cond, _&&_}
-use mathlib.Core.List.{List, [], _∷_, _++_, List·Memᴰ as Mem}
+use mathlib.Core.List.{List, _∷_, List·Memᴰ as Mem}
 use native.Mathlib.Nat.{eq-or-lt-of-le}
 use native.Mathlib.Numerals.{add-one}
 use native.Mathlib.Decide.{ℕ-discrete}
 use native.Mathlib.Omega.{arith}
 use lib.ListN.{length, getD, drop, set, length-set, replicate, length-replicate, getD-replicate, length-append, length-drop, List·getD-append}
 use lib.Seq.{getD-set-same, getD-set-other, getD-append-add, getD-drop, ext-getD}
-use lib.Dec.{T, eqb, leb, ltb, ltb→lt, lt→ltb}
-use borrow.Author.Tests.{eq-eqb, ne-eqb, eqb-true, eqb-false}
-use Rattle.deck.specs.Sheet.{Sheet, area, free, startOf, goalsOf, lastGoal}
+use lib.Dec.{T, eqb, ltb→lt, lt→ltb}
+use borrow.Author.Tests.{eq-eqb, eqb-true}
+use Rattle.deck.specs.Sheet.{Sheet, area, startOf, goalsOf, lastGoal}
 use Rattle.deck.specs.Calls.{overwrite}
 use Rattle.deck.specs.declared.Carrier.{Carrier}
 use Rattle.deck.specs.declared.Task.{Task}
 use Rattle.deck.specs.declared.Constraint.{Constraint}
 use Rattle.meaning.proofs.Tests.{Says, is-true}
-use Rattle.kernel.specs.Layers.{Parts, pass, back, good, next, trace, firstOf}
+use Rattle.kernel.specs.Layers.{Parts, pass, back, good, next, trace}
 use Rattle.kernel.specs.Goals.{up, lowered}
 use Rattle.kernel.specs.Near.{near}
 use Rattle.kernel.specs.Parts.{partsOf}
-use Rattle.kernel.specs.Kernel.{hind, follow, pathAt}
+use Rattle.kernel.specs.Kernel.{hind, pathAt}
 use Rattle.kernel.proofs.Both.{and-left, and-right, and-both}
-use Rattle.kernel.proofs.Choice.{lt-or-ge, best-some, best-all, first-passes}
+use Rattle.kernel.proofs.Choice.{lt-or-ge, best-some, best-all}
 use Rattle.kernel.proofs.Labels.{up-le, lowered-iff}
 use Rattle.kernel.proofs.Kernel.{hind-back, follow-trace}
 use Rattle.kernel.proofs.Least.{cond-pos}
@@ -83,8 +83,8 @@ module _ (d : Sheet) (i : Carrier) (j : Task) (cs : List Constraint) where
   trace-length m (suc n) t u k = let e = trace-length m n (suc t) (next w n t u k) (w .raise u (next w n t u k) k) in omega arith
 
 module _ (d : Sheet) (i : Carrier) (j : Task) (cs : List Constraint) (end : ℕ) where
-  abbrev v : Parts
-  v = partsOf d i j cs
+  abbrev parts : Parts
+  parts = partsOf d i j cs
 
   -- one word more in front
   written-more : (t u k : ℕ) (g : ℕ → ℕ) (before after : List ℕ) (x : ℕ) → x ≡ u → t ≤ end → end < length before
@@ -116,14 +116,14 @@ module _ (d : Sheet) (i : Carrier) (j : Task) (cs : List Constraint) (end : ℕ)
       → Dived d i j cs end t u k before before NoWalk
   ends-not t u k before h l g =
       let o : end - t ≡ 0 = omega arith in
-      record { says = (rw o (⊎-elim (λ m. absurd (g (back-zero d i j cs t u k l .test m))) (λ m. m) (lt-or-ge (length (goalsOf d j)) (k + back v 0 t u))), refl) }
+      record { says = (rw o (⊎-elim (λ m. absurd (g (back-zero d i j cs t u k l .test m))) (λ m. m) (lt-or-ge (length (goalsOf d j)) (k + back parts 0 t u))), refl) }
 
   module _ (t u k : ℕ) (on : u < area d) (l : t < end) (label : k ≤ length (goalsOf d j)) where
     steps-left : end - t ≡ suc (end - (t + 1))
     steps-left = omega arith
 
     goes : ℕ → Bool
-    goes y = good v (end - (t + 1)) t u k y
+    goes y = good parts (end - (t + 1)) t u k y
 
     -- by no way
     pub goes-nowhere : ((y : ℕ) → y < 5 → ¬ T (goesBy d i j cs end t u k y)) → Fails d i j cs end t u k
@@ -137,21 +137,23 @@ module _ (d : Sheet) (i : Carrier) (j : Task) (cs : List Constraint) (end : ℕ)
     goes-on x lx h before after z e room ld =
         let g = ld .says .0 in
         let f = ld .says .1 in
-        let q : placeBy d u x ≡ next v (end - (t + 1)) t u k = first-by d u on goes x lx g h in
-        record { says = (
-          rw steps-left (good-back d i j cs (end - (t + 1)) t u k (placeBy d u x) (mem-by d u on x lx (and-left (hasBy d u x) _ g)) (and-right (hasBy d u x) _ g)),
-          written-more t u k _ before after z e (omega arith) room f (λ p a b. at q p a),
-        ) }
+        let q : placeBy d u x ≡ next parts (end - (t + 1)) t u k = first-by d u on goes x lx g h in
+        record {
+          says = (
+            rw steps-left (good-back d i j cs (end - (t + 1)) t u k (placeBy d u x) (mem-by d u on x lx (and-left (hasBy d u x) _ g)) (and-right (hasBy d u x) _ g)),
+            written-more t u k _ before after z e (omega arith) room f (λ p a b. at q p a),
+          );
+        }
       where
-        at : placeBy d u x ≡ next v (end - (t + 1)) t u k → (p : ℕ) → t < p
+        at : placeBy d u x ≡ next parts (end - (t + 1)) t u k → (p : ℕ) → t < p
             → getD (onFrom d i j cs end (t + 1) (placeBy d u x) (up (placeBy d u x) (goalsOf d j) k)) (p - (t + 1)) 0 ≡ getD (onFrom d i j cs end t u k) (p - t) 0
         at q p a =
             let y : ℕ = p - (t + 1) in
             let o : p - t ≡ suc (p - (t + 1)) = omega arith in
-            let n : ℕ = next v (end - (t + 1)) t u k in
-            ap (λ (b : ℕ). getD (b ∷ trace v (d .horizon - end) (end - (t + 1)) (t + 1) b (up b (goalsOf d j) k)) y 0) q
-            ∙ ap (λ (b : ℕ). getD (n ∷ trace v (d .horizon - end) (end - (t + 1)) b n (up n (goalsOf d j) k)) y 0) (add-one t)
-            ∙ sym (ap (λ (b : ℕ). getD (u ∷ trace v (d .horizon - end) b t u k) (p - t) 0) steps-left ∙ ap (λ (b : ℕ). getD (u ∷ trace v (d .horizon - end) (suc (end - (t + 1))) t u k) b 0) o)
+            let n : ℕ = next parts (end - (t + 1)) t u k in
+            ap (λ (b : ℕ). getD (b ∷ trace parts (d .horizon - end) (end - (t + 1)) (t + 1) b (up b (goalsOf d j) k)) y 0) q
+            ∙ ap (λ (b : ℕ). getD (n ∷ trace parts (d .horizon - end) (end - (t + 1)) b n (up n (goalsOf d j) k)) y 0) (add-one t)
+            ∙ sym (ap (λ (b : ℕ). getD (u ∷ trace parts (d .horizon - end) b t u k) (p - t) 0) steps-left ∙ ap (λ (b : ℕ). getD (u ∷ trace parts (d .horizon - end) (suc (end - (t + 1))) t u k) b 0) o)
 
   -- what is remembered
   pub dead-none : Dead d i j cs end (replicate 1024 0)
@@ -192,8 +194,8 @@ module _ (d : Sheet) (i : Carrier) (j : Task) (cs : List Constraint) (end : ℕ)
       same : (p : ℕ) → getD (onFrom d i j cs end 0 u k) p 0 ≡ getD whole p 0
       same p =
           let o : end - 0 ≡ end = omega arith in
-          ap (λ (y : ℕ). getD (u ∷ trace v (d .horizon - end) y 0 u k) p 0) o ∙ ap (λ (y : ℕ). getD (y ∷ trace v (d .horizon - end) end 0 y k) p 0) eu
-          ∙ ap (λ (y : ℕ). getD (startOf d i ∷ trace v (d .horizon - end) end 0 (startOf d i) y) p 0) ek
+          ap (λ (y : ℕ). getD (u ∷ trace parts (d .horizon - end) y 0 u k) p 0) o ∙ ap (λ (y : ℕ). getD (y ∷ trace parts (d .horizon - end) end 0 y k) p 0) eu
+          ∙ ap (λ (y : ℕ). getD (startOf d i ∷ trace parts (d .horizon - end) end 0 (startOf d i) y) p 0) ek
 
       lengths : length three ≡ length (overwrite whole before)
       lengths =
@@ -222,29 +224,29 @@ module _ (d : Sheet) (i : Carrier) (j : Task) (cs : List Constraint) (end : ℕ)
 
   -- what the walk from the start says of the backward layer there
   abbrev left : ℕ → ℕ → ℕ
-  left u k = k + back v (end - 0) 0 u
+  left u k = k + back parts (end - 0) 0 u
 
-  left-start : (u k : ℕ) → u ≡ startOf d i → k ≡ up (startOf d i) (goalsOf d j) 0 → left u k ≡ up (startOf d i) (goalsOf d j) 0 + back v end 0 (startOf d i)
+  left-start : (u k : ℕ) → u ≡ startOf d i → k ≡ up (startOf d i) (goalsOf d j) 0 → left u k ≡ up (startOf d i) (goalsOf d j) 0 + back parts end 0 (startOf d i)
   left-start u k eu ek = let o : end - 0 ≡ end = omega arith in rw (o, eu, ek) refl
 
-  pub start-meets : T (v .stand 0 (startOf d i)) → (u k : ℕ) → u ≡ startOf d i → k ≡ up (startOf d i) (goalsOf d j) 0 → Meets d i j cs end 0 u k
+  pub start-meets : T (parts .stand 0 (startOf d i)) → (u k : ℕ) → u ≡ startOf d i → k ≡ up (startOf d i) (goalsOf d j) 0 → Meets d i j cs end 0 u k
       → length (goalsOf d j) < hind d i j cs end 0 (startOf d i)
   start-meets s u k eu ek m =
-      let a : length (goalsOf d j) < up (startOf d i) (goalsOf d j) 0 + back v end 0 (startOf d i) = subst (λ (y : ℕ). length (goalsOf d j) < y) (left-start u k eu ek) m in
-      let b = lowered-iff (goalsOf d j) (startOf d i) 0 (back v end 0 (startOf d i)) .0 a in
-      rw (hind-back d i j cs end 0 (startOf d i), is-true (v .stand 0 (startOf d i)) s) (omega arith)
+      let a : length (goalsOf d j) < up (startOf d i) (goalsOf d j) 0 + back parts end 0 (startOf d i) = subst (λ (y : ℕ). length (goalsOf d j) < y) (left-start u k eu ek) m in
+      let b = lowered-iff (goalsOf d j) (startOf d i) 0 (back parts end 0 (startOf d i)) .0 a in
+      rw (hind-back d i j cs end 0 (startOf d i), is-true (parts .stand 0 (startOf d i)) s) (omega arith)
 
   pub start-fails : (u k : ℕ) → u ≡ startOf d i → k ≡ up (startOf d i) (goalsOf d j) 0 → Fails d i j cs end 0 u k
       → ¬ (length (goalsOf d j) < hind d i j cs end 0 (startOf d i))
   start-fails u k eu ek f m =
-      let a = cond-pos (v .stand 0 (startOf d i)) (lowered (startOf d i) (goalsOf d j) (back v end 0 (startOf d i))) (length (goalsOf d j)) (rw (hind-back d i j cs end 0 (startOf d i)) at m) in
-      let b = lowered-iff (goalsOf d j) (startOf d i) 0 (back v end 0 (startOf d i)) .1 (omega (arith, a .1)) in
+      let a = cond-pos (parts .stand 0 (startOf d i)) (lowered (startOf d i) (goalsOf d j) (back parts end 0 (startOf d i))) (length (goalsOf d j)) (rw (hind-back d i j cs end 0 (startOf d i)) at m) in
+      let b = lowered-iff (goalsOf d j) (startOf d i) 0 (back parts end 0 (startOf d i)) .1 (omega (arith, a .1)) in
       omega (arith, left-start u k eu ek)
 
   -- the start is barred at time 0
-  pub start-barred : (b : Bool) → b ≡ v .stand 0 (startOf d i) → b ≡ false → ¬ (length (goalsOf d j) < hind d i j cs end 0 (startOf d i))
+  pub start-barred : (b : Bool) → b ≡ parts .stand 0 (startOf d i) → b ≡ false → ¬ (length (goalsOf d j) < hind d i j cs end 0 (startOf d i))
   start-barred b e g m =
-      let a = cond-pos (v .stand 0 (startOf d i)) (lowered (startOf d i) (goalsOf d j) (back v end 0 (startOf d i))) (length (goalsOf d j)) (rw (hind-back d i j cs end 0 (startOf d i)) at m) in
+      let a = cond-pos (parts .stand 0 (startOf d i)) (lowered (startOf d i) (goalsOf d j) (back parts end 0 (startOf d i))) (length (goalsOf d j)) (rw (hind-back d i j cs end 0 (startOf d i)) at m) in
       subst T (sym e ∙ g) (a .0)
 
 -- What a look and the walk from where it leads say together

@@ -7,16 +7,16 @@ use mathlib.Core.List.{List, [], _∷_, List·Memᴰ as Mem, List·Memᴰ·not-n
 use native.Mathlib.Nat.{mod-le}
 use native.Mathlib.Omega.{arith}
 use lib.ListN.{getD}
-use lib.Dec.{T, leb, ltb, leb→le, ltb→lt}
-use Rattle.deck.specs.Sheet.{Sheet, area, free}
+use lib.Dec.{T, leb→le, ltb→lt}
+use Rattle.deck.specs.Sheet.{Sheet, area}
 use Rattle.meaning.specs.Meaning.{Beside}
 use Rattle.meaning.proofs.Tests.{is-true, is-false}
 use Rattle.kernel.specs.Layers.{firstOf}
 use Rattle.kernel.specs.Near.{consIf, hasAbove, hasLeft, hasRight, hasBelow, near}
-use Rattle.kernel.proofs.Both.{and-left, and-right, and-both}
+use Rattle.kernel.proofs.Both.{and-left, and-both}
 use Rattle.kernel.proofs.Near.{wide-of, right-inside, above-beside, left-beside, right-beside, below-beside, cases-if, self-near, beside-near}
 use Rattle.bars.specs.Padded.{padOf, Holds}
-use Rattle.bars.proofs.Grid.{pad-above, pad-left, pad-right, pad-below, pad-least}
+use Rattle.bars.proofs.Grid.{pad-above, pad-left, pad-right, pad-below}
 use Rattle.layers.proofs.Around.{from-above, from-left, from-right, from-below}
 use Rattle.trace.proofs.Looking.{first-above, first-left, first-same, first-right, first-below}
 use Rattle.first_walk.specs.Walk.{turnOf, placeBy, hasBy}

@@ -6,7 +6,7 @@ use mathlib.Core.List.{List, _∷_}
 use lib.ListN.{length, getD}
 use lib.Dec.{T}
 use Rattle.deck.specs.Sheet.{Sheet, read, free, startOf, goalsOf, lastGoal}
-use Rattle.deck.specs.Calls.{constraintsOf, overwrite}
+use Rattle.deck.specs.Calls.{overwrite}
 use Rattle.deck.specs.declared.Carrier.{Carrier}
 use Rattle.deck.specs.declared.Task.{Task}
 use Rattle.deck.specs.declared.Constraint.{Constraint}

@@ -4,12 +4,11 @@
 use deck::Carrier;
 use deck::Task;
 ghost use mathlib.Core.Path.{_≡_};
-ghost use mathlib.Core.Bool.{Bool, _&&_};
-ghost use mathlib.Core.List.{List};
-ghost use Prim.Native.Nat.{ℕ, suc, _+_, _-_, _*_, _<_, _≤_};
+ghost use mathlib.Core.Bool.{_&&_};
+ghost use Prim.Native.Nat.{suc, _+_, _<_, _≤_};
 ghost use lib.ListN.{length, getD, set};
 ghost use lib.Dec.{eqb};
-ghost use Rattle.deck.specs.Sheet.{Sheet, read};
+ghost use Rattle.deck.specs.Sheet.{read};
 ghost use Rattle.deck.specs.Calls.{constraintsOf};
 ghost use Rattle.kernel.specs.Parts.{freePlace, freeMove};
 ghost use Rattle.bars.specs.Bars.{countIn, Chained};
@@ -183,10 +182,45 @@ fn by_way(
     requires { ⌜ Given (now s) i j (now mask) (now goals) (now records) (now heads) (now links) (now table) l × On (read (now s)) j (l .end) t u p k × Dead (read (now s)) i j (constraintsOf (now records)) (l .end) (now dead) × (suc (read (now s) .horizon) ≤ length (now out)) × (t < l .end) × (x < 5) ⌝ }
     ensures { λ r. ⌜ Led (read (now (s .entry))) i j (constraintsOf (now (records .entry))) (l .end) t u k x (now (out .entry)) (now (out .exit)) r × Dead (read (now (s .entry))) i j (constraintsOf (now (records .entry))) (l .end) (now (dead .exit)) ⌝ }
 {
-    let a = look(s, i, j, mask, goals, records, heads, links, table, l, t, u, p, k, x, dead);
+    let a = look(
+        s,
+        i,
+        j,
+        mask,
+        goals,
+        records,
+        heads,
+        links,
+        table,
+        l,
+        t,
+        u,
+        p,
+        k,
+        x,
+        dead,
+    );
     match a {
         Ahead::Shut => Tried::NoWalk,
-        Ahead::To { v, q, c } => dive(s, i, j, mask, goals, records, heads, links, table, l, t + 1, v, q, c, left, dead, out),
+        Ahead::To { v, q, c } => dive(
+            s,
+            i,
+            j,
+            mask,
+            goals,
+            records,
+            heads,
+            links,
+            table,
+            l,
+            t + 1,
+            v,
+            q,
+            c,
+            left,
+            dead,
+            out,
+        ),
     }
 }
 
@@ -232,7 +266,26 @@ fn dive(
     }
     *left = *left - 1;
     for x in 0..5 {
-        let r = by_way(s, i, j, mask, goals, records, heads, links, table, l, t, u, p, k, x, left, dead, out);
+        let r = by_way(
+            s,
+            i,
+            j,
+            mask,
+            goals,
+            records,
+            heads,
+            links,
+            table,
+            l,
+            t,
+            u,
+            p,
+            k,
+            x,
+            left,
+            dead,
+            out,
+        );
         match r {
             Tried::Found => {
                 out[t] = trace::narrow(u);
@@ -277,7 +330,25 @@ pub fn first_walk(
     let l = Seek { w, n, end, last };
     let mut left = 4096;
     let mut dead = [0u32; 1024];
-    let r = dive(s, i, j, mask, goals, records, heads, links, table, l, 0, u, p, k, &mut left, &mut dead, out);
+    let r = dive(
+        s,
+        i,
+        j,
+        mask,
+        goals,
+        records,
+        heads,
+        links,
+        table,
+        l,
+        0,
+        u,
+        p,
+        k,
+        &mut left,
+        &mut dead,
+        out,
+    );
     match r {
         Tried::Found => {
             trace::stay(out, end + 1, horizon + 1, trace::narrow(last));

@@ -2,7 +2,7 @@
 use borrow.Author.Needs.{needs}
 use native.Mathlib.Omega.{arith}
 use mathlib.Core.Path.{sym, _∙_, subst}
-use Prim.Native.Nat.{ℕ, _-_, _≤_, _<_}
+use Prim.Native.Nat.{ℕ, _≤_, _<_}
 use lib.Dec.{T}
 use Rattle.bars.specs.Bars.{countIn, ownAt, standsOn}
 use Rattle.bars.proofs.Walks.{Walk, walk-first, none-after, walk-less, walk-turn, walk-own}

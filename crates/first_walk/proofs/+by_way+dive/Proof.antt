@@ -1,8 +1,9 @@
+-- The proof of the cycle of calls {by_way, dive}. The steps that are left fall: twice their number for `dive`, one less for `by_way`, which takes one step.
+-- Along the loop of `dive` no way that was tried leads on, so the first that does is the first of the places around. Assumes nothing.
 use borrow.Author.Needs.{needs}
 use native.Mathlib.Omega.{arith}
 use Prim.Native.Nat.{ℕ, _+_, _-_, _*_, _≤_, _<_}
-use mathlib.Core.Path.{_≡_, refl, sym, ap, _∙_, subst}
-use mathlib.Core.List.{List}
+use mathlib.Core.Path.{_≡_, refl, ap, _∙_}
 use lib.ListN.{length}
 use lib.Dec.{T}
 use Rattle.deck.specs.Sheet.{read}
@@ -11,7 +12,6 @@ use Rattle.first_walk.specs.Walk.{Dead, goesBy}
 use Rattle.first_walk.proofs.Walking.{seen-shut, seen-to, led-of, led-none, led-cut}
 use Rattle.first_walk.proofs.Looking.{time-small, place-small, label-small}
 use Rattle.first_walk.proofs.Diving.{dived-here, dived-not, not-yet, dived-on, found-room, found-size, dived-none, ways-more}
-
 use borrow.Fn.Kinds.{In}
 use borrow.Fn.PlainCycle.{Measures, is, falls, and}
 use Rattle.first_walk.proofs.by_way.Reads as by-way
@@ -45,7 +45,6 @@ dive-at t = and 10 dive-kinds.ps (is 10 dive-kinds.ps μ-dive t) dive.Pre
 abbrev dive-below : ℕ → In 10 dive-kinds.ps
 dive-below t = and 10 dive-kinds.ps (falls 10 dive-kinds.ps _<_ μ-dive t) dive.Pre
 
--- src/lib.rt:180:9
 by-way-look-requires : (t : ℕ) → by-way-lts.Need-look-requires (
   look-reads.Asked,
   look-reads.Learnt,
@@ -54,7 +53,6 @@ by-way-look-requires : (t : ℕ) → by-way-lts.Need-look-requires (
 ) (by-way-at t) by-way.Post
 by-way-look-requires t c κs = search needs
 
--- src/lib.rt:182:24
 by-way-enum-told : (t : ℕ) → by-way-lts.Need-enum-told (
   look-reads.Asked,
   look-reads.Learnt,
@@ -63,7 +61,6 @@ by-way-enum-told : (t : ℕ) → by-way-lts.Need-enum-told (
 ) (by-way-at t) by-way.Post
 by-way-enum-told t c = search needs
 
--- src/lib.rt:183:21
 by-way-enum-known-a : (t : ℕ) → by-way-lts.Need-enum-known-a (
   look-reads.Asked,
   look-reads.Learnt,
@@ -72,7 +69,6 @@ by-way-enum-known-a : (t : ℕ) → by-way-lts.Need-enum-known-a (
 ) (by-way-at t) by-way.Post
 by-way-enum-known-a t c = search needs
 
--- src/lib.rt:183:94
 by-way-add-dive : (t : ℕ) → by-way-lts.Need-add-dive (
   look-reads.Asked,
   look-reads.Learnt,
@@ -81,7 +77,6 @@ by-way-add-dive : (t : ℕ) → by-way-lts.Need-add-dive (
 ) (by-way-at t) by-way.Post
 by-way-add-dive t c = omega (arith, time-small (c .before .before .before .before .before .before .before .before .before .before .pre .1 .0) (c .before .before .before .before .before .before .before .before .before .before .pre .1 .1))
 
--- src/lib.rt:183:34
 by-way-dive-requires : (t : ℕ) → by-way-lts.Need-dive-requires (
   look-reads.Asked,
   look-reads.Learnt,
@@ -90,7 +85,6 @@ by-way-dive-requires : (t : ℕ) → by-way-lts.Need-dive-requires (
 ) (by-way-at t) by-way.Post
 by-way-dive-requires t c κs = (let e : 2 * (c .before .before .before .before .before .before .before .before .before .before .before .before .before .args .l .end - c .before .before .before .before .before .before .before .before .before .before .before .before .before .args .t) - 1 ≡ t = c .before .before .before .before .before .before .before .before .before .before .before .before .before .pre .0 in let q : 2 * (c .before .before .before .before .before .before .before .before .before .before .before .before .before .args .l .end - (c .before .before .before .before .before .before .before .before .before .before .before .before .before .args .t + 1)) < t = omega (arith, c .before .before .before .before .before .before .before .before .before .before .before .before .before .pre .1 .4) in q, (c .before .before .before .before .before .before .before .before .before .before .before .before .before .pre .1 .0, seen-to (read (c .before .before .before .before .before .before .before .before .before .before .before .before .before .args .s .now)) (c .before .before .before .before .before .before .before .before .before .before .before .before .before .args .i) (c .before .before .before .before .before .before .before .before .before .before .before .before .before .args .j) (constraintsOf (c .before .before .before .before .before .before .before .before .before .before .before .before .before .args .records .now)) (c .before .before .before .before .before .before .before .before .before .before .before .before .before .args .l .end) (c .before .before .before .before .before .before .before .before .before .before .before .before .before .args .t) (c .before .before .before .before .before .before .before .before .before .before .before .before .before .args .u) (c .before .before .before .before .before .before .before .before .before .before .before .before .before .args .k) (c .before .before .before .before .before .before .before .before .before .before .before .before .before .args .x) (c .before .before .before .before .a .given .1) (c .before .before .before .before .before .before .look .ensures) .4, c .before .before .before .before .before .before .before .before .before .before .before .before .before .pre .1 .2, c .before .before .before .before .before .before .before .before .before .before .before .before .before .pre .1 .3))
 
--- src/lib.rt:157:1
 by-way-returns : (t : ℕ) → by-way-lts.Need-returns (
   look-reads.Asked,
   look-reads.Learnt,
@@ -99,7 +93,6 @@ by-way-returns : (t : ℕ) → by-way-lts.Need-returns (
 ) (by-way-at t) by-way.Post
 by-way-returns t c = (record { says = (seen-shut (read (c .before .before .before .before .before .before .before .before .before .args .s .now)) (c .before .before .before .before .before .before .before .before .before .args .i) (c .before .before .before .before .before .before .before .before .before .args .j) (constraintsOf (c .before .before .before .before .before .before .before .before .before .args .records .now)) (c .before .before .before .before .before .before .before .before .before .args .l .end) (c .before .before .before .before .before .before .before .before .before .args .t) (c .before .before .before .before .before .before .before .before .before .args .u) (c .before .before .before .before .before .before .before .before .before .args .k) (c .before .before .before .before .before .before .before .before .before .args .x) (c .enum-told .given .1) (c .before .before .look .ensures), refl) }, c .before .before .before .before .before .before .before .before .before .pre .1 .2)
 
--- src/lib.rt:157:1
 by-way-same-length : (t : ℕ) → by-way-lts.Need-same-length (
   look-reads.Asked,
   look-reads.Learnt,
@@ -108,7 +101,6 @@ by-way-same-length : (t : ℕ) → by-way-lts.Need-same-length (
 ) (by-way-at t) by-way.Post
 by-way-same-length t c = search needs
 
--- src/lib.rt:157:1
 by-way-returns-2 : (t : ℕ) → by-way-lts.Need-returns-2 (
   look-reads.Asked,
   look-reads.Learnt,
@@ -125,7 +117,6 @@ abbrev dive-μ-loop : dive-lts.MeasureT-loop
 dive-μ-loop s i j mask goals records heads links table l t u p k left₀ dead₀ out₀ x₀ left dead out x =
     5 - x
 
--- src/lib.rt:218:12
 dive-finished-requires : (t : ℕ) → dive-lts.Need-finished-requires (
   finished-reads.Asked,
   finished-reads.Learnt,
@@ -138,7 +129,6 @@ dive-finished-requires : (t : ℕ) → dive-lts.Need-finished-requires (
 ) (dive-at t) dive.Post dive-Inv-loop dive-μ-loop
 dive-finished-requires t c κs = search needs
 
--- src/lib.rt:219:22
 dive-narrow-requires : (t : ℕ) → dive-lts.Need-narrow-requires (
   finished-reads.Asked,
   finished-reads.Learnt,
@@ -151,7 +141,6 @@ dive-narrow-requires : (t : ℕ) → dive-lts.Need-narrow-requires (
 ) (dive-at t) dive.Post dive-Inv-loop dive-μ-loop
 dive-narrow-requires t c κs = omega (arith, place-small (c .before .before .before .before .before .before .before .before .before .pre .1 .0) (c .before .before .before .before .before .before .before .before .before .pre .1 .1))
 
--- src/lib.rt:219:13
 dive-mul-out : (t : ℕ) → dive-lts.Need-mul-out (
   finished-reads.Asked,
   finished-reads.Learnt,
@@ -164,7 +153,6 @@ dive-mul-out : (t : ℕ) → dive-lts.Need-mul-out (
 ) (dive-at t) dive.Post dive-Inv-loop dive-μ-loop
 dive-mul-out t c = omega (arith, time-small (c .before .before .before .before .before .before .before .before .before .before .pre .1 .0) (c .before .before .before .before .before .before .before .before .before .before .pre .1 .1))
 
--- src/lib.rt:219:13
 dive-slice-write-out : (t : ℕ) → dive-lts.Need-slice-write-out (
   finished-reads.Asked,
   finished-reads.Learnt,
@@ -177,7 +165,6 @@ dive-slice-write-out : (t : ℕ) → dive-lts.Need-slice-write-out (
 ) (dive-at t) dive.Post dive-Inv-loop dive-μ-loop
 dive-slice-write-out t c = search needs
 
--- src/lib.rt:220:13
 dive-same-length : (t : ℕ) → dive-lts.Need-same-length (
   finished-reads.Asked,
   finished-reads.Learnt,
@@ -190,7 +177,6 @@ dive-same-length : (t : ℕ) → dive-lts.Need-same-length (
 ) (dive-at t) dive.Post dive-Inv-loop dive-μ-loop
 dive-same-length t c = search needs
 
--- src/lib.rt:220:13
 dive-returns : (t : ℕ) → dive-lts.Need-returns (
   finished-reads.Asked,
   finished-reads.Learnt,
@@ -203,7 +189,6 @@ dive-returns : (t : ℕ) → dive-lts.Need-returns (
 ) (dive-at t) dive.Post dive-Inv-loop dive-μ-loop
 dive-returns t c = (dived-here (c .before .before .before .before .before .before .before .before .before .before .pre .1 .0) (c .before .before .before .before .before .before .before .before .before .before .pre .1 .1) (c .before .before .before .before .before .before .before .before .before .before .args .out .now) (c .before .before .finished .result) (c .narrow .result) (c .before .before .before .if1 .taken) (c .before .before .finished .ensures) (c .before .if2 .taken) (c .narrow .ensures) (c .before .before .before .before .before .before .before .before .before .before .pre .1 .3), c .before .before .before .before .before .before .before .before .before .before .pre .1 .2)
 
--- src/lib.rt:222:9
 dive-returns-2 : (t : ℕ) → dive-lts.Need-returns-2 (
   finished-reads.Asked,
   finished-reads.Learnt,
@@ -216,7 +201,6 @@ dive-returns-2 : (t : ℕ) → dive-lts.Need-returns-2 (
 ) (dive-at t) dive.Post dive-Inv-loop dive-μ-loop
 dive-returns-2 t c = (dived-not (c .before .before .before .before .before .before .before .before .before .pre .1 .0) (c .before .before .before .before .before .before .before .before .before .pre .1 .1) (c .before .before .before .before .before .before .before .before .before .args .out .now) (c .before .finished .result) (c .before .before .if1 .taken) (c .before .finished .ensures) (c .if2 .left), c .before .before .before .before .before .before .before .before .before .pre .1 .2)
 
--- src/lib.rt:225:9
 dive-returns-3 : (t : ℕ) → dive-lts.Need-returns-3 (
   finished-reads.Asked,
   finished-reads.Learnt,
@@ -229,7 +213,6 @@ dive-returns-3 : (t : ℕ) → dive-lts.Need-returns-3 (
 ) (dive-at t) dive.Post dive-Inv-loop dive-μ-loop
 dive-returns-3 t c = (record { says = refl }, c .before .before .before .before .before .before .before .before .before .pre .1 .2)
 
--- src/lib.rt:227:13
 dive-sub-left : (t : ℕ) → dive-lts.Need-sub-left (
   finished-reads.Asked,
   finished-reads.Learnt,
@@ -242,7 +225,6 @@ dive-sub-left : (t : ℕ) → dive-lts.Need-sub-left (
 ) (dive-at t) dive.Post dive-Inv-loop dive-μ-loop
 dive-sub-left t c = search needs
 
--- src/lib.rt:228:5
 dive-loop-holds : (t : ℕ) → dive-lts.Need-loop-holds (
   finished-reads.Asked,
   finished-reads.Learnt,
@@ -255,7 +237,6 @@ dive-loop-holds : (t : ℕ) → dive-lts.Need-loop-holds (
 ) (dive-at t) dive.Post dive-Inv-loop dive-μ-loop
 dive-loop-holds t c = (omega arith, refl, c .before .before .before .before .before .before .before .before .before .pre .1 .2, λ y a. absurd (omega arith))
 
--- src/lib.rt:229:13
 dive-by-way-requires : (t : ℕ) → dive-lts.Need-by-way-requires (
   finished-reads.Asked,
   finished-reads.Learnt,
@@ -266,9 +247,8 @@ dive-by-way-requires : (t : ℕ) → dive-lts.Need-by-way-requires (
   bury-reads.Asked,
   bury-reads.Learnt,
 ) (dive-at t) dive.Post dive-Inv-loop dive-μ-loop
-dive-by-way-requires t c κs = (let e : 2 * (c .before .before .before .before .before .before .before .before .before .before .before .before .before .before .args .l .end - c .before .before .before .before .before .before .before .before .before .before .before .before .before .before .args .t) ≡ t = c .before .before .before .before .before .before .before .before .before .before .before .before .before .before .pre .0 in let q : 2 * (c .before .before .before .before .before .before .before .before .before .before .before .before .before .before .args .l .end - c .before .before .before .before .before .before .before .before .before .before .before .before .before .before .args .t) - 1 < t = omega (arith, not-yet (c .before .before .before .before .before .before .before .before .before .before .before .before .before .before .pre .1 .0) (c .before .before .before .before .before .before .before .before .before .before .before .before .before .before .pre .1 .1) (c .before .before .before .before .before .before .before .if1 .left)) in q, (c .before .before .before .before .before .before .before .before .before .before .before .before .before .before .pre .1 .0, c .before .before .before .before .before .before .before .before .before .before .before .before .before .before .pre .1 .1, c .before .before .before .before .loop .inv .2, omega (arith, ap length (c .before .before .before .before .loop .inv .1), c .before .before .before .before .before .before .before .before .before .before .before .before .before .before .pre .1 .3), not-yet (c .before .before .before .before .before .before .before .before .before .before .before .before .before .before .pre .1 .0) (c .before .before .before .before .before .before .before .before .before .before .before .before .before .before .pre .1 .1) (c .before .before .before .before .before .before .before .if1 .left), c .before .before .before .loop-test .taken))
+dive-by-way-requires t c κs = (let e : 2 * (c .before .before .before .before .before .before .before .before .before .before .before .before .before .before .args .l .end - c .before .before .before .before .before .before .before .before .before .before .before .before .before .before .args .t) ≡ t = c .before .before .before .before .before .before .before .before .before .before .before .before .before .before .pre .0 in let q : 2 * (c .before .before .before .before .before .before .before .before .before .before .before .before .before .before .args .l .end - c .before .before .before .before .before .before .before .before .before .before .before .before .before .before .args .t) - 1 < t = omega (arith, not-yet (c .before .before .before .before .before .before .before .before .before .before .before .before .before .before .pre .1 .0) (c .before .before .before .before .before .before .before .before .before .before .before .before .before .before .pre .1 .1) (c .before .before .before .before .before .before .before .if1 .left)) in q, (c .before .before .before .before .before .before .before .before .before .before .before .before .before .before .pre .1 .0, c .before .before .before .before .before .before .before .before .before .before .before .before .before .before .pre .1 .1, c .before .before .before .before .loop .inv .2, omega (arith, ap length (c .before .before .before .before .loop .inv .1), c .before .before .before .before .before .before .before .before .before .before .before .before .before .before .pre .1 .3), not-yet (c .before .before .before .before .before .before .before .before .before .before .before .before .before .before .pre .1 .0) (c .before .before .before .before .before .before .before .before .before .before .before .before .before .before .pre .1 .1) (c .before .before .before .before .before .before .before .if1 .left), (omega (arith, c .before .before .before .loop-test .taken))))
 
--- src/lib.rt:232:26
 dive-enum-told : (t : ℕ) → dive-lts.Need-enum-told (
   finished-reads.Asked,
   finished-reads.Learnt,
@@ -281,7 +261,6 @@ dive-enum-told : (t : ℕ) → dive-lts.Need-enum-told (
 ) (dive-at t) dive.Post dive-Inv-loop dive-μ-loop
 dive-enum-told t c = search needs
 
--- src/lib.rt:232:26
 dive-narrow-requires-2 : (t : ℕ) → dive-lts.Need-narrow-requires-2 (
   finished-reads.Asked,
   finished-reads.Learnt,
@@ -294,7 +273,6 @@ dive-narrow-requires-2 : (t : ℕ) → dive-lts.Need-narrow-requires-2 (
 ) (dive-at t) dive.Post dive-Inv-loop dive-μ-loop
 dive-narrow-requires-2 t c κs = omega (arith, place-small (c .before .before .before .before .before .before .before .before .before .before .before .before .before .before .before .before .before .before .before .pre .1 .0) (c .before .before .before .before .before .before .before .before .before .before .before .before .before .before .before .before .before .before .before .pre .1 .1))
 
--- src/lib.rt:232:17
 dive-mul-out-2 : (t : ℕ) → dive-lts.Need-mul-out-2 (
   finished-reads.Asked,
   finished-reads.Learnt,
@@ -307,7 +285,6 @@ dive-mul-out-2 : (t : ℕ) → dive-lts.Need-mul-out-2 (
 ) (dive-at t) dive.Post dive-Inv-loop dive-μ-loop
 dive-mul-out-2 t c = omega (arith, time-small (c .before .before .before .before .before .before .before .before .before .before .before .before .before .before .before .before .before .before .before .before .pre .1 .0) (c .before .before .before .before .before .before .before .before .before .before .before .before .before .before .before .before .before .before .before .before .pre .1 .1))
 
--- src/lib.rt:232:17
 dive-slice-write-out-2 : (t : ℕ) → dive-lts.Need-slice-write-out-2 (
   finished-reads.Asked,
   finished-reads.Learnt,
@@ -320,7 +297,6 @@ dive-slice-write-out-2 : (t : ℕ) → dive-lts.Need-slice-write-out-2 (
 ) (dive-at t) dive.Post dive-Inv-loop dive-μ-loop
 dive-slice-write-out-2 t c = found-room (c .before .before .before .before .before .before .before .before .before .before .before .before .before .before .before .before .before .before .before .before .pre .1 .0) (c .before .before .before .before .before .before .before .before .before .before .before .before .before .before .before .before .before .before .before .before .pre .1 .1) (c .before .before .before .before .before .before .before .before .before .before .before .before .before .if1 .left) (c .before .before .before .before .before .before .before .before .before .before .loop .x) (c .before .before .before .before .before .before .before .before .before .before .loop .inv .1) (c .before .enum-told .given .1) (c .before .before .before .before .before .by-way .ensures .0) (c .before .before .before .before .before .before .before .before .before .before .before .before .before .before .before .before .before .before .before .before .pre .1 .3)
 
--- src/lib.rt:233:17
 dive-same-length-2 : (t : ℕ) → dive-lts.Need-same-length-2 (
   finished-reads.Asked,
   finished-reads.Learnt,
@@ -333,7 +309,6 @@ dive-same-length-2 : (t : ℕ) → dive-lts.Need-same-length-2 (
 ) (dive-at t) dive.Post dive-Inv-loop dive-μ-loop
 dive-same-length-2 t c = found-size (c .before .before .before .before .before .before .before .before .before .before .before .before .before .before .before .before .before .before .before .before .pre .1 .0) (c .before .before .before .before .before .before .before .before .before .before .before .before .before .before .before .before .before .before .before .before .pre .1 .1) (c .before .before .before .before .before .before .before .before .before .before .before .before .before .if1 .left) (c .before .before .before .before .before .before .before .before .before .before .loop .x) (c .narrow2 .result) (c .before .before .before .before .before .before .before .before .before .before .loop .inv .1) (c .before .enum-told .given .1) (c .before .before .before .before .before .by-way .ensures .0)
 
--- src/lib.rt:233:17
 dive-returns-4 : (t : ℕ) → dive-lts.Need-returns-4 (
   finished-reads.Asked,
   finished-reads.Learnt,
@@ -344,9 +319,8 @@ dive-returns-4 : (t : ℕ) → dive-lts.Need-returns-4 (
   bury-reads.Asked,
   bury-reads.Learnt,
 ) (dive-at t) dive.Post dive-Inv-loop dive-μ-loop
-dive-returns-4 t c = (dived-on (c .before .before .before .before .before .before .before .before .before .before .before .before .before .before .before .before .before .before .before .before .pre .1 .0) (c .before .before .before .before .before .before .before .before .before .before .before .before .before .before .before .before .before .before .before .before .pre .1 .1) (c .before .before .before .before .before .before .before .before .before .before .before .before .before .if1 .left) (c .before .before .before .before .before .before .before .before .before .before .loop .x) (c .narrow2 .result) (c .before .before .before .before .before .before .before .before .before .loop-test .taken) (c .before .before .before .before .before .before .before .before .before .before .loop .inv .3) (c .before .before .before .before .before .before .before .before .before .before .loop .inv .1) (c .before .enum-told .given .1) (c .before .before .before .before .before .by-way .ensures .0) (c .narrow2 .ensures) (c .before .before .before .before .before .before .before .before .before .before .before .before .before .before .before .before .before .before .before .before .pre .1 .3), c .before .before .before .before .before .by-way .ensures .1)
+dive-returns-4 t c = (dived-on (c .before .before .before .before .before .before .before .before .before .before .before .before .before .before .before .before .before .before .before .before .pre .1 .0) (c .before .before .before .before .before .before .before .before .before .before .before .before .before .before .before .before .before .before .before .before .pre .1 .1) (c .before .before .before .before .before .before .before .before .before .before .before .before .before .if1 .left) (c .before .before .before .before .before .before .before .before .before .before .loop .x) (c .narrow2 .result) (omega (arith, c .before .before .before .before .before .before .before .before .before .loop-test .taken)) (c .before .before .before .before .before .before .before .before .before .before .loop .inv .3) (c .before .before .before .before .before .before .before .before .before .before .loop .inv .1) (c .before .enum-told .given .1) (c .before .before .before .before .before .by-way .ensures .0) (c .narrow2 .ensures) (c .before .before .before .before .before .before .before .before .before .before .before .before .before .before .before .before .before .before .before .before .pre .1 .3), c .before .before .before .before .before .by-way .ensures .1)
 
--- src/lib.rt:235:31
 dive-enum-told-2 : (t : ℕ) → dive-lts.Need-enum-told-2 (
   finished-reads.Asked,
   finished-reads.Learnt,
@@ -359,7 +333,6 @@ dive-enum-told-2 : (t : ℕ) → dive-lts.Need-enum-told-2 (
 ) (dive-at t) dive.Post dive-Inv-loop dive-μ-loop
 dive-enum-told-2 t c = search needs
 
--- src/lib.rt:235:31
 dive-same-length-3 : (t : ℕ) → dive-lts.Need-same-length-3 (
   finished-reads.Asked,
   finished-reads.Learnt,
@@ -372,7 +345,6 @@ dive-same-length-3 : (t : ℕ) → dive-lts.Need-same-length-3 (
 ) (dive-at t) dive.Post dive-Inv-loop dive-μ-loop
 dive-same-length-3 t c = search needs
 
--- src/lib.rt:235:31
 dive-returns-5 : (t : ℕ) → dive-lts.Need-returns-5 (
   finished-reads.Asked,
   finished-reads.Learnt,
@@ -397,7 +369,6 @@ dive-enum-told-3 : (t : ℕ) → dive-lts.Need-enum-told-3 (
 ) (dive-at t) dive.Post dive-Inv-loop dive-μ-loop
 dive-enum-told-3 t c = search needs
 
--- src/lib.rt:228:9
 dive-add-x : (t : ℕ) → dive-lts.Need-add-x (
   finished-reads.Asked,
   finished-reads.Learnt,
@@ -410,7 +381,6 @@ dive-add-x : (t : ℕ) → dive-lts.Need-add-x (
 ) (dive-at t) dive.Post dive-Inv-loop dive-μ-loop
 dive-add-x t c = search needs
 
--- src/lib.rt:228:5
 dive-loop-less : (t : ℕ) → dive-lts.Need-loop-less (
   finished-reads.Asked,
   finished-reads.Learnt,
@@ -423,7 +393,6 @@ dive-loop-less : (t : ℕ) → dive-lts.Need-loop-less (
 ) (dive-at t) dive.Post dive-Inv-loop dive-μ-loop
 dive-loop-less t c = search needs
 
--- src/lib.rt:228:5
 dive-loop-again : (t : ℕ) → dive-lts.Need-loop-again (
   finished-reads.Asked,
   finished-reads.Learnt,
@@ -436,7 +405,6 @@ dive-loop-again : (t : ℕ) → dive-lts.Need-loop-again (
 ) (dive-at t) dive.Post dive-Inv-loop dive-μ-loop
 dive-loop-again t c = let q = led-none (read (c .before .before .before .before .before .before .before .before .before .before .before .before .before .before .before .before .before .before .before .args .s .now)) (c .before .before .before .before .before .before .before .before .before .before .before .before .before .before .before .before .before .before .before .args .i) (c .before .before .before .before .before .before .before .before .before .before .before .before .before .before .before .before .before .before .before .args .j) (constraintsOf (c .before .before .before .before .before .before .before .before .before .before .before .before .before .before .before .before .before .before .before .args .records .now)) (c .before .before .before .before .before .before .before .before .before .before .before .before .before .before .before .before .before .before .before .args .l .end) (c .before .before .before .before .before .before .before .before .before .before .before .before .before .before .before .before .before .before .before .args .t) (c .before .before .before .before .before .before .before .before .before .before .before .before .before .before .before .before .before .before .before .args .u) (c .before .before .before .before .before .before .before .before .before .before .before .before .before .before .before .before .before .before .before .args .k) (c .before .before .before .before .before .before .before .before .before .loop .x) (c .enum-told3 .given .1) (c .before .before .before .before .by-way .ensures .0) in (omega (arith, c .before .before .before .before .before .before .before .before .loop-test .taken), q .1 ∙ c .before .before .before .before .before .before .before .before .before .loop .inv .1, c .before .before .before .before .by-way .ensures .1, ways-more (c .before .before .before .before .before .before .before .before .before .before .before .before .before .before .before .before .before .before .before .pre .1 .0) (c .before .before .before .before .before .before .before .before .before .before .before .before .before .before .before .before .before .before .before .pre .1 .1) (c .before .before .before .before .before .before .before .before .before .loop .x) (c .before .before .before .before .before .before .before .before .before .loop .inv .3) (q .0))
 
--- src/lib.rt:239:5
 dive-bury-requires : (t : ℕ) → dive-lts.Need-bury-requires (
   finished-reads.Asked,
   finished-reads.Learnt,
@@ -449,7 +417,6 @@ dive-bury-requires : (t : ℕ) → dive-lts.Need-bury-requires (
 ) (dive-at t) dive.Post dive-Inv-loop dive-μ-loop
 dive-bury-requires t c κs = (time-small (c .before .before .before .before .before .before .before .before .before .before .before .before .pre .1 .0) (c .before .before .before .before .before .before .before .before .before .before .before .before .pre .1 .1), place-small (c .before .before .before .before .before .before .before .before .before .before .before .before .pre .1 .0) (c .before .before .before .before .before .before .before .before .before .before .before .before .pre .1 .1), label-small (c .before .before .before .before .before .before .before .before .before .before .before .before .pre .1 .0) (c .before .before .before .before .before .before .before .before .before .before .before .before .pre .1 .1))
 
--- src/lib.rt:195:1
 dive-same-length-4 : (t : ℕ) → dive-lts.Need-same-length-4 (
   finished-reads.Asked,
   finished-reads.Learnt,
@@ -462,7 +429,6 @@ dive-same-length-4 : (t : ℕ) → dive-lts.Need-same-length-4 (
 ) (dive-at t) dive.Post dive-Inv-loop dive-μ-loop
 dive-same-length-4 t c = search needs
 
--- src/lib.rt:195:1
 dive-returns-6 : (t : ℕ) → dive-lts.Need-returns-6 (
   finished-reads.Asked,
   finished-reads.Learnt,

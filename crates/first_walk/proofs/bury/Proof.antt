@@ -1,3 +1,4 @@
+-- `first_walk::bury` meets its contract: one number is stored. Assumes nothing.
 use borrow.Author.Needs.{needs}
 use native.Mathlib.Omega.{arith}
 use mathlib.Core.Path.{_≡_, ap₂, _∙_}
@@ -5,32 +6,22 @@ use Prim.Native.Nat.{ℕ, _%_}
 use lib.ListN.{set}
 use Rattle.first_walk.proofs.bury.Statement.{statement}
 use Rattle.first_walk.proofs.bury.Tie as tie
-use Rattle.first_walk.proofs.bury.Reads as reads
-use Rattle.first_walk.proofs.bury.Lts as lts
-use Rattle.first_walk.proofs.code.Reads as code-reads
-use Rattle.first_walk.proofs.slot.Reads as slot-reads
 
--- src/lib.rt:92:25
 code-requires : tie.Need-code-requires
 code-requires c κs = search needs
 
--- src/lib.rt:92:24
 cast-dead : tie.Need-cast-dead
 cast-dead c = search needs
 
--- src/lib.rt:92:10
 slot-requires : tie.Need-slot-requires
 slot-requires c κs = search needs
 
--- src/lib.rt:92:5
 mul-dead : tie.Need-mul-dead
 mul-dead c = search needs
 
--- src/lib.rt:92:5
 element-write-dead : tie.Need-element-write-dead
 element-write-dead c = search needs
 
--- src/lib.rt:88:1
 returns : tie.Need-returns
 returns c = ap₂ (λ (x y : ℕ). set (c .before .before .args .dead .now) x y) (c .slot .ensures .0) (let e : c .before .code .result % 4294967296 ≡ c .before .code .result = omega (arith, c .before .code .ensures .1) in e ∙ c .before .code .ensures .0)
 

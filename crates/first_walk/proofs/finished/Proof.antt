@@ -1,15 +1,12 @@
+-- `first_walk::finished` meets its contract, by its two cases. Assumes nothing.
 use mathlib.Core.Path.{refl}
 use borrow.Author.Tests.{eq-eqb, ne-eqb}
 use Rattle.first_walk.proofs.finished.Statement.{statement}
 use Rattle.first_walk.proofs.finished.Tie as tie
-use Rattle.first_walk.proofs.finished.Reads as reads
-use Rattle.first_walk.proofs.finished.Lts as lts
 
--- src/lib.rt:188:1
 returns : tie.Need-returns
 returns c = rw (eq-eqb (c .before .before .before .args .u) (c .before .before .before .args .l .last) (c .before .if1 .taken)) refl
 
--- src/lib.rt:188:1
 returns-2 : tie.Need-returns-2
 returns-2 c = rw (ne-eqb (c .before .before .args .u) (c .before .before .args .l .last) (c .if1 .left)) refl
 

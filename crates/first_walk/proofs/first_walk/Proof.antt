@@ -1,3 +1,4 @@
+-- `first_walk::first_walk` meets its contract: the walk from the start, and then the last goal. Assumes nothing.
 use borrow.Author.Needs.{needs}
 use native.Mathlib.Omega.{arith}
 use Prim.Native.Nat.{zero-le}
@@ -11,108 +12,73 @@ use Rattle.first_walk.proofs.Walking.{dead-none}
 use Rattle.first_walk.proofs.Starting.{start-label, start-on, walked-barred, walked-none, walked-cut, found-long, walked-found}
 use Rattle.first_walk.proofs.first_walk.Statement.{statement}
 use Rattle.first_walk.proofs.first_walk.Tie as tie
-use Rattle.first_walk.proofs.first_walk.Reads as reads
-use Rattle.first_walk.proofs.first_walk.Lts as lts
-use Rattle.bars.proofs.pad.Reads as pad-reads
-use Rattle.bars.proofs.place_free.Reads as place-free-reads
-use Rattle.first_walk.proofs.dive.Reads as dive-reads
-use Rattle.sheet.proofs.byte_at.Reads as byte-at-reads
-use Rattle.sheet.proofs.goal_count.Reads as goal-count-reads
-use Rattle.sheet.proofs.last_goal.Reads as last-goal-reads
-use Rattle.sheet.proofs.start.Reads as start-reads
-use Rattle.trace.proofs.narrow.Reads as narrow-reads
-use Rattle.trace.proofs.stay.Reads as stay-reads
-use Rattle.trace.proofs.visit.Reads as visit-reads
 
--- src/lib.rt:267:9
 byte-at-requires : tie.Need-byte-at-requires
 byte-at-requires c κs = search needs
 
--- src/lib.rt:268:9
 byte-at-requires-2 : tie.Need-byte-at-requires-2
 byte-at-requires-2 c κs = search needs
 
--- src/lib.rt:269:9
 goal-count-requires : tie.Need-goal-count-requires
 goal-count-requires c κs = search needs
 
--- src/lib.rt:270:9
 last-goal-requires : tie.Need-last-goal-requires
 last-goal-requires c κs = search needs
 
--- src/lib.rt:271:9
 start-requires : tie.Need-start-requires
 start-requires c κs = search needs
 
--- src/lib.rt:272:9
 place-free-requires : tie.Need-place-free-requires
 place-free-requires c κs = (omega arith, few-records (c .before .before .before .before .before .before .before .before .before .before .pre .0), c .before .before .before .before .before .before .before .before .before .before .pre .2)
 
--- src/lib.rt:273:9
 returns : tie.Need-returns
 returns c = walked-barred (c .before .before .before .before .before .before .before .before .before .before .before .before .pre .0) (c .before .before .before .before .before .before .before .before .before .before .before .before .args .end) _ _ (c .before .before .before .before .before .before .before .before .before .before .before .before .args .out .now) (c .before .before .start .ensures .0 (c .before .before .before .before .before .before .before .before .before .before .before .before .pre .0 .accepted)) (c .before .place-free .ensures) (not-true _ (c .if1 .taken))
 
--- src/lib.rt:275:9
 pad-requires : tie.Need-pad-requires
 pad-requires c κs = (omega (arith, (c .before .before .before .before .before .before .byte-at .ensures .0), wide-one (c .before .before .before .before .before .before .before .before .before .before .before .before .pre .0)), omega (arith, (c .before .before .before .before .before .before .byte-at .ensures .0), wide-most (c .before .before .before .before .before .before .before .before .before .before .before .before .pre .0)), omega (arith, c .before .before .start .ensures .1 .0 (c .before .before .before .before .before .before .before .before .before .before .before .before .pre .0 .accepted), area-range (c .before .before .before .before .before .before .before .before .before .before .before .before .args .s .now) (c .before .before .before .before .before .before .before .before .before .before .before .before .pre .0 .accepted) .1))
 
--- src/lib.rt:276:9
 visit-requires : tie.Need-visit-requires
 visit-requires c κs = (c .before .before .before .before .before .goal-count .ensures .1 .0 (c .before .before .before .before .before .before .before .before .before .before .before .before .before .pre .0 .accepted), zero-le)
 
--- src/lib.rt:280:9
 dive-requires : tie.Need-dive-requires
 dive-requires c κs = (record { ready = c .before .before .before .before .before .before .before .before .before .before .before .before .before .before .before .before .before .pre .0; on-goals = c .before .before .before .before .before .before .before .before .before .before .before .before .before .before .before .before .before .pre .1; chained = c .before .before .before .before .before .before .before .before .before .before .before .before .before .before .before .before .before .pre .2; low = c .before .before .before .before .before .before .before .before .before .before .before .before .before .before .before .before .before .pre .3; long = c .before .before .before .before .before .before .before .before .before .before .before .before .before .before .before .before .before .pre .4; in-time = c .before .before .before .before .before .before .before .before .before .before .before .before .before .before .before .before .before .pre .5; wide = (c .before .before .before .before .before .before .before .before .before .before .before .byte-at .ensures .0); many = (c .before .before .before .before .before .before .before .before .before .goal-count .ensures .0 (c .before .before .before .before .before .before .before .before .before .before .before .before .before .before .before .before .before .pre .0 .accepted)); final = c .before .before .before .before .before .before .before .before .last-goal .ensures .0 (c .before .before .before .before .before .before .before .before .before .before .before .before .before .before .before .before .before .pre .0 .accepted) }, start-on (c .before .before .before .before .before .before .before .before .before .before .before .before .before .before .before .before .before .pre .0) (c .before .before .before .before .before .before .before .before .before .before .before .before .before .before .before .before .before .args .end) (c .before .before .before .before .before .before .before .start .ensures .0 (c .before .before .before .before .before .before .before .before .before .before .before .before .before .before .before .before .before .pre .0 .accepted)) (c .before .before .before .before .before .before .before .before .before .before .before .byte-at .ensures .0) (c .before .before .before .before .pad .ensures) (start-label (c .before .before .before .before .before .before .before .before .before .before .before .before .before .before .before .before .before .pre .0) (c .before .before .before .before .before .before .before .before .before .before .before .before .before .before .before .before .before .args .end) (c .before .before .before .before .before .before .before .before .before .before .before .before .before .before .before .before .before .pre .1) (c .before .before .before .before .before .before .before .before .before .goal-count .ensures .0 (c .before .before .before .before .before .before .before .before .before .before .before .before .before .before .before .before .before .pre .0 .accepted)) (c .before .before .before .before .before .before .before .start .ensures .0 (c .before .before .before .before .before .before .before .before .before .before .before .before .before .before .before .before .before .pre .0 .accepted)) (c .before .before .before .before .before .before .before .before .before .before .before .byte-at .ensures .0) (c .before .before .before .before .pad .ensures) (c .before .before .before .visit .ensures)), dead-none (read (c .before .before .before .before .before .before .before .before .before .before .before .before .before .before .before .before .before .args .s .now)) (c .before .before .before .before .before .before .before .before .before .before .before .before .before .before .before .before .before .args .i) (c .before .before .before .before .before .before .before .before .before .before .before .before .before .before .before .before .before .args .j) (constraintsOf (c .before .before .before .before .before .before .before .before .before .before .before .before .before .before .before .before .before .args .records .now)) (c .before .before .before .before .before .before .before .before .before .before .before .before .before .before .before .before .before .args .end), c .before .before .before .before .before .before .before .before .before .before .before .before .before .before .before .before .before .pre .6)
 
--- src/lib.rt:283:25
 enum-told : tie.Need-enum-told
 enum-told c = search needs
 
--- src/lib.rt:283:30
 add-stay : tie.Need-add-stay
 add-stay c = omega (arith, c .before .before .before .before .before .before .before .before .before .before .before .before .before .before .before .before .before .before .before .before .before .before .before .pre .5, horizon-most (c .before .before .before .before .before .before .before .before .before .before .before .before .before .before .before .before .before .before .before .before .before .before .before .pre .0))
 
--- src/lib.rt:283:39
 add-stay-2 : tie.Need-add-stay-2
 add-stay-2 c = search needs
 
--- src/lib.rt:283:52
 narrow-requires : tie.Need-narrow-requires
 narrow-requires c κs = search needs
 
--- src/lib.rt:283:13
 stay-requires : tie.Need-stay-requires
 stay-requires c κs = (omega (arith, c .before .before .before .before .before .before .before .before .before .before .before .before .before .before .before .before .before .byte-at2 .ensures .0, c .before .before .before .before .before .before .before .before .before .before .before .before .before .before .before .before .before .before .before .before .before .before .before .before .pre .5), omega (arith, c .before .before .before .before .before .before .before .before .before .before .before .before .before .before .before .before .before .byte-at2 .ensures .0, c .before .before .before .before .before .before .before .before .before .before .before .before .before .before .before .before .before .before .before .before .before .before .before .before .pre .6, found-long (c .before .before .before .before .before .before .before .before .before .before .before .before .before .before .before .before .before .before .before .before .before .before .before .before .pre .0) (c .before .before .before .before .before .before .before .before .before .before .before .before .before .before .before .before .before .before .before .before .before .before .before .before .args .end) (c .before .before .before .before .before .before .before .before .before .before .before .before .before .before .start .ensures .0 (c .before .before .before .before .before .before .before .before .before .before .before .before .before .before .before .before .before .before .before .before .before .before .before .before .pre .0 .accepted)) (start-label (c .before .before .before .before .before .before .before .before .before .before .before .before .before .before .before .before .before .before .before .before .before .before .before .before .pre .0) (c .before .before .before .before .before .before .before .before .before .before .before .before .before .before .before .before .before .before .before .before .before .before .before .before .args .end) (c .before .before .before .before .before .before .before .before .before .before .before .before .before .before .before .before .before .before .before .before .before .before .before .before .pre .1) (c .before .before .before .before .before .before .before .before .before .before .before .before .before .before .before .before .goal-count .ensures .0 (c .before .before .before .before .before .before .before .before .before .before .before .before .before .before .before .before .before .before .before .before .before .before .before .before .pre .0 .accepted)) (c .before .before .before .before .before .before .before .before .before .before .before .before .before .before .start .ensures .0 (c .before .before .before .before .before .before .before .before .before .before .before .before .before .before .before .before .before .before .before .before .before .before .before .before .pre .0 .accepted)) (c .before .before .before .before .before .before .before .before .before .before .before .before .before .before .before .before .before .before .byte-at .ensures .0) (c .before .before .before .before .before .before .before .before .before .before .before .pad .ensures) (c .before .before .before .before .before .before .before .before .before .before .visit .ensures)) (c .before .before .before .before .before .before .dive .ensures .0) (c .before .before .enum-told .given .1)))
 
--- src/lib.rt:286:26
 enum-told-2 : tie.Need-enum-told-2
 enum-told-2 c = search needs
 
--- src/lib.rt:287:27
 enum-told-3 : tie.Need-enum-told-3
 enum-told-3 c = search needs
 
--- src/lib.rt:251:1
 same-length : tie.Need-same-length
 same-length c = search needs
 
--- src/lib.rt:251:1
 returns-2 : tie.Need-returns-2
 returns-2 c = walked-found (c .before .before .before .before .before .before .before .before .before .before .before .before .before .before .before .before .before .before .before .before .before .before .before .before .before .before .before .pre .0) (c .before .before .before .before .before .before .before .before .before .before .before .before .before .before .before .before .before .before .before .before .before .before .before .before .before .before .before .args .end) (c .before .before .before .before .before .before .before .before .before .before .before .before .before .before .before .before .before .start .ensures .0 (c .before .before .before .before .before .before .before .before .before .before .before .before .before .before .before .before .before .before .before .before .before .before .before .before .before .before .before .pre .0 .accepted)) (start-label (c .before .before .before .before .before .before .before .before .before .before .before .before .before .before .before .before .before .before .before .before .before .before .before .before .before .before .before .pre .0) (c .before .before .before .before .before .before .before .before .before .before .before .before .before .before .before .before .before .before .before .before .before .before .before .before .before .before .before .args .end) (c .before .before .before .before .before .before .before .before .before .before .before .before .before .before .before .before .before .before .before .before .before .before .before .before .before .before .before .pre .1) (c .before .before .before .before .before .before .before .before .before .before .before .before .before .before .before .before .before .before .before .goal-count .ensures .0 (c .before .before .before .before .before .before .before .before .before .before .before .before .before .before .before .before .before .before .before .before .before .before .before .before .before .before .before .pre .0 .accepted)) (c .before .before .before .before .before .before .before .before .before .before .before .before .before .before .before .before .before .start .ensures .0 (c .before .before .before .before .before .before .before .before .before .before .before .before .before .before .before .before .before .before .before .before .before .before .before .before .before .before .before .pre .0 .accepted)) (c .before .before .before .before .before .before .before .before .before .before .before .before .before .before .before .before .before .before .before .before .before .byte-at .ensures .0) (c .before .before .before .before .before .before .before .before .before .before .before .before .before .before .pad .ensures) (c .before .before .before .before .before .before .before .before .before .before .before .before .before .visit .ensures)) (c .before .before .before .before .before .before .before .before .before .dive .ensures .0) (c .before .before .before .before .before .enum-told .given .1) _ (c .before .before .before .before .before .before .before .before .before .before .before .before .before .before .before .before .place-free .ensures) (not-false _ (c .before .before .before .before .before .before .before .before .before .before .before .before .before .before .before .if1 .left)) (c .before .before .before .before .before .before .before .before .before .before .before .before .before .before .before .before .before .before .before .before .before .before .before .before .before .before .before .pre .5) (c .before .before .before .before .before .before .before .before .before .before .before .before .before .before .before .before .before .before .before .before .before .before .before .before .before .before .before .pre .6) (c .before .before .stay .ensures) refl (omega (arith, c .before .before .before .before .before .before .before .before .before .before .before .before .before .before .before .before .before .before .before .before .byte-at2 .ensures .0)) (c .before .before .before .narrow .ensures ∙ c .before .before .before .before .before .before .before .before .before .before .before .before .before .before .before .before .before .before .last-goal .ensures .0 (c .before .before .before .before .before .before .before .before .before .before .before .before .before .before .before .before .before .before .before .before .before .before .before .before .before .before .before .pre .0 .accepted))
 
--- src/lib.rt:251:1
 same-length-2 : tie.Need-same-length-2
 same-length-2 c = search needs
 
--- src/lib.rt:251:1
 returns-3 : tie.Need-returns-3
 returns-3 c = walked-none (c .before .before .before .before .before .before .before .before .before .before .before .before .before .before .before .before .before .before .before .before .before .before .pre .0) (c .before .before .before .before .before .before .before .before .before .before .before .before .before .before .before .before .before .before .before .before .before .before .args .end) (c .before .before .before .before .before .before .before .before .before .before .before .before .start .ensures .0 (c .before .before .before .before .before .before .before .before .before .before .before .before .before .before .before .before .before .before .before .before .before .before .pre .0 .accepted)) (start-label (c .before .before .before .before .before .before .before .before .before .before .before .before .before .before .before .before .before .before .before .before .before .before .pre .0) (c .before .before .before .before .before .before .before .before .before .before .before .before .before .before .before .before .before .before .before .before .before .before .args .end) (c .before .before .before .before .before .before .before .before .before .before .before .before .before .before .before .before .before .before .before .before .before .before .pre .1) (c .before .before .before .before .before .before .before .before .before .before .before .before .before .before .goal-count .ensures .0 (c .before .before .before .before .before .before .before .before .before .before .before .before .before .before .before .before .before .before .before .before .before .before .pre .0 .accepted)) (c .before .before .before .before .before .before .before .before .before .before .before .before .start .ensures .0 (c .before .before .before .before .before .before .before .before .before .before .before .before .before .before .before .before .before .before .before .before .before .before .pre .0 .accepted)) (c .before .before .before .before .before .before .before .before .before .before .before .before .before .before .before .before .byte-at .ensures .0) (c .before .before .before .before .before .before .before .before .before .pad .ensures) (c .before .before .before .before .before .before .before .before .visit .ensures)) (c .before .before .before .before .dive .ensures .0) (c .enum-told2 .given .1)
 
--- src/lib.rt:251:1
 same-length-3 : tie.Need-same-length-3
 same-length-3 c = search needs
 
--- src/lib.rt:251:1
 returns-4 : tie.Need-returns-4
 returns-4 c = walked-cut (c .before .before .before .before .before .before .before .before .before .before .before .before .before .before .before .before .before .before .before .before .before .before .pre .0) (c .before .before .before .before .before .before .before .before .before .before .before .before .before .before .before .before .before .before .before .before .before .before .args .end) (c .before .before .before .before .before .before .before .before .before .before .before .before .start .ensures .0 (c .before .before .before .before .before .before .before .before .before .before .before .before .before .before .before .before .before .before .before .before .before .before .pre .0 .accepted)) (start-label (c .before .before .before .before .before .before .before .before .before .before .before .before .before .before .before .before .before .before .before .before .before .before .pre .0) (c .before .before .before .before .before .before .before .before .before .before .before .before .before .before .before .before .before .before .before .before .before .before .args .end) (c .before .before .before .before .before .before .before .before .before .before .before .before .before .before .before .before .before .before .before .before .before .before .pre .1) (c .before .before .before .before .before .before .before .before .before .before .before .before .before .before .goal-count .ensures .0 (c .before .before .before .before .before .before .before .before .before .before .before .before .before .before .before .before .before .before .before .before .before .before .pre .0 .accepted)) (c .before .before .before .before .before .before .before .before .before .before .before .before .start .ensures .0 (c .before .before .before .before .before .before .before .before .before .before .before .before .before .before .before .before .before .before .before .before .before .before .pre .0 .accepted)) (c .before .before .before .before .before .before .before .before .before .before .before .before .before .before .before .before .byte-at .ensures .0) (c .before .before .before .before .before .before .before .before .before .pad .ensures) (c .before .before .before .before .before .before .before .before .visit .ensures)) (c .before .before .before .before .dive .ensures .0) (c .enum-told3 .given .1)
 

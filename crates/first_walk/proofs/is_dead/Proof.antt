@@ -1,3 +1,4 @@
+-- `first_walk::is_dead` meets its contract. Assumes nothing.
 use borrow.Author.Needs.{needs}
 use mathlib.Core.Path.{ap, ap₂, _∙_}
 use Prim.Native.Nat.{ℕ}
@@ -5,33 +6,22 @@ use lib.ListN.{getD}
 use lib.Dec.{eqb}
 use Rattle.first_walk.proofs.is_dead.Statement.{statement}
 use Rattle.first_walk.proofs.is_dead.Tie as tie
-use Rattle.first_walk.proofs.is_dead.Reads as reads
-use Rattle.first_walk.proofs.is_dead.Lts as lts
-use Rattle.first_walk.proofs.code.Reads as code-reads
-use Rattle.first_walk.proofs.slot.Reads as slot-reads
-use Rattle.first_walk.proofs.wide32.Reads as wide32-reads
 
--- src/lib.rt:85:17
 slot-requires : tie.Need-slot-requires
 slot-requires c κs = search needs
 
--- src/lib.rt:85:12
 mul-wide32 : tie.Need-mul-wide32
 mul-wide32 c = search needs
 
--- src/lib.rt:85:12
 element-copy-out-wide32 : tie.Need-element-copy-out-wide32
 element-copy-out-wide32 c = search needs
 
--- src/lib.rt:85:5
 wide32-requires : tie.Need-wide32-requires
 wide32-requires c κs = search needs
 
--- src/lib.rt:85:33
 code-requires : tie.Need-code-requires
 code-requires c κs = search needs
 
--- src/lib.rt:81:1
 returns : tie.Need-returns
 returns c = ap₂ eqb (c .before .wide32 .ensures ∙ ap (λ (x : ℕ). getD (c .before .before .before .before .args .dead .now) x 0) (c .before .before .before .slot .ensures .0)) (c .code .ensures .0)
 

@@ -1,29 +1,21 @@
+-- `first_walk::lets` meets its contract, by its two cases. Assumes nothing.
 use borrow.Author.Needs.{needs}
 use mathlib.Core.Path.{refl, sym, _∙_}
 use Rattle.first_walk.proofs.lets.Statement.{statement}
 use Rattle.first_walk.proofs.lets.Tie as tie
-use Rattle.first_walk.proofs.lets.Reads as reads
-use Rattle.first_walk.proofs.lets.Lts as lts
-use Rattle.bars.proofs.move_free.Reads as move-free-reads
-use Rattle.bars.proofs.place_free.Reads as place-free-reads
 
--- src/lib.rt:108:8
 move-free-requires : tie.Need-move-free-requires
 move-free-requires c κs = search needs
 
--- src/lib.rt:109:54
 add-place-free : tie.Need-add-place-free
 add-place-free c = search needs
 
--- src/lib.rt:109:9
 place-free-requires : tie.Need-place-free-requires
 place-free-requires c κs = search needs
 
--- src/lib.rt:96:1
 returns : tie.Need-returns
 returns c = rw (sym (c .before .before .move-free .ensures) ∙ c .before .if1 .taken) (c .place-free .ensures)
 
--- src/lib.rt:96:1
 returns-2 : tie.Need-returns-2
 returns-2 c = rw (sym (c .before .move-free .ensures) ∙ c .if1 .left) refl
 

@@ -1,3 +1,4 @@
+-- `first_walk::look` meets its contract: a way that is left out does not lead on. Assumes nothing.
 use borrow.Author.Needs.{needs}
 use native.Mathlib.Omega.{arith}
 use mathlib.Core.Path.{refl}
@@ -5,107 +6,76 @@ use Rattle.passes.proofs.Given.{horizon-most, few-goals, few-records}
 use Rattle.first_walk.proofs.Looking.{place-small, time-small, width-small, padded-small, spot-of, spot-small, blocked-way, open-way, open-small, count-small, too-late, was-dead, barred-way, clear-way}
 use Rattle.first_walk.proofs.look.Statement.{statement}
 use Rattle.first_walk.proofs.look.Tie as tie
-use Rattle.first_walk.proofs.look.Reads as reads
-use Rattle.first_walk.proofs.look.Lts as lts
-use Rattle.first_walk.proofs.is_dead.Reads as is-dead-reads
-use Rattle.first_walk.proofs.lets.Reads as lets-reads
-use Rattle.first_walk.proofs.turn.Reads as turn-reads
-use Rattle.first_walk.proofs.wide8.Reads as wide8-reads
-use Rattle.trace.proofs.visit.Reads as visit-reads
 
--- src/lib.rt:137:22
 add-turn : tie.Need-add-turn
 add-turn c = search needs
 
--- src/lib.rt:137:17
 turn-requires : tie.Need-turn-requires
 turn-requires c κs = (omega arith, omega (arith, width-small (c .before .before .before .before .before .pre .0) (c .before .before .before .before .before .pre .1) .1), c .before .before .before .before .before .pre .4)
 
--- src/lib.rt:137:13
 add-q : tie.Need-add-q
 add-q c = omega (arith, padded-small (c .before .before .before .before .before .before .pre .0) (c .before .before .before .before .before .before .pre .1), c .turn .ensures .1)
 
--- src/lib.rt:137:37
 add-q-2 : tie.Need-add-q-2
 add-q-2 c = search needs
 
--- src/lib.rt:137:13
 sub-q : tie.Need-sub-q
 sub-q c = search needs
 
--- src/lib.rt:138:8
 element-copy-out-if1 : tie.Need-element-copy-out-if1
 element-copy-out-if1 c = rw (spot-of (c .before .before .before .before .before .before .before .pre .0) (c .before .before .before .before .before .before .before .pre .1) (c .before .before .before .before .before .before .before .args .x) (c .before .turn .result) (c .before .turn .ensures .0)) (spot-small (c .before .before .before .before .before .before .before .pre .0) (c .before .before .before .before .before .before .before .pre .1) (c .before .before .before .before .before .before .before .args .x))
 
--- src/lib.rt:139:9
 returns : tie.Need-returns
 returns c = blocked-way (c .before .before .before .before .before .before .before .before .before .pre .0) (c .before .before .before .before .before .before .before .before .before .pre .1) (c .before .before .before .before .before .before .before .before .before .args .x) (c .before .before .before .before .before .before .before .before .before .pre .4) _ _ (spot-of (c .before .before .before .before .before .before .before .before .before .pre .0) (c .before .before .before .before .before .before .before .before .before .pre .1) (c .before .before .before .before .before .before .before .before .before .args .x) (c .before .before .before .turn .result) (c .before .before .before .turn .ensures .0)) refl (c .if1 .taken)
 
--- src/lib.rt:141:17
 turn-requires-2 : tie.Need-turn-requires-2
 turn-requires-2 c κs = (width-small (c .before .before .before .before .before .before .before .before .before .pre .0) (c .before .before .before .before .before .before .before .before .before .pre .1) .0, omega (arith, width-small (c .before .before .before .before .before .before .before .before .before .pre .0) (c .before .before .before .before .before .before .before .before .before .pre .1) .1), c .before .before .before .before .before .before .before .before .before .pre .4)
 
--- src/lib.rt:141:13
 add-v : tie.Need-add-v
 add-v c = omega (arith, place-small (c .before .before .before .before .before .before .before .before .before .before .pre .0) (c .before .before .before .before .before .before .before .before .before .before .pre .1), c .turn2 .ensures .1)
 
--- src/lib.rt:141:13
 sub-v : tie.Need-sub-v
 sub-v c = (open-way (c .before .before .before .before .before .before .before .before .before .before .before .pre .0) (c .before .before .before .before .before .before .before .before .before .before .before .pre .1) (c .before .before .before .before .before .before .before .before .before .before .before .args .x) (c .before .before .before .before .before .before .before .before .before .before .before .pre .4) _ _ (c .before .turn2 .result) (spot-of (c .before .before .before .before .before .before .before .before .before .before .before .pre .0) (c .before .before .before .before .before .before .before .before .before .before .before .pre .1) (c .before .before .before .before .before .before .before .before .before .before .before .args .x) (c .before .before .before .before .before .turn .result) (c .before .before .before .before .before .turn .ensures .0)) refl (c .before .before .if1 .left) (c .before .turn2 .ensures .0)) .0
 
--- src/lib.rt:142:9
 visit-requires : tie.Need-visit-requires
 visit-requires c κs = (omega (arith, c .before .before .before .before .before .before .before .before .before .before .before .pre .0 .many, few-goals (c .before .before .before .before .before .before .before .before .before .before .before .pre .0 .ready)), omega (arith, c .before .before .before .before .before .before .before .before .before .before .before .pre .0 .many, c .before .before .before .before .before .before .before .before .before .before .before .pre .1 .label))
 
--- src/lib.rt:143:16
 add-if2 : tie.Need-add-if2
 add-if2 c = search needs
 
--- src/lib.rt:143:36
 mul-wide8 : tie.Need-mul-wide8
 mul-wide8 c = omega (arith, count-small (c .before .before .before .before .before .before .before .before .before .before .before .before .pre .0) (c .before .before .before .before .before .before .before .before .before .before .before .before .pre .1) (c .before .before .before .before .before .before .before .before .before .before .before .before .args .x) (c .before .before .before .before .before .before .before .before .before .before .before .before .pre .4) (c .before .before .before .before .before .before .before .before .before .before .before .before .pre .3) ((open-way (c .before .before .before .before .before .before .before .before .before .before .before .before .pre .0) (c .before .before .before .before .before .before .before .before .before .before .before .before .pre .1) (c .before .before .before .before .before .before .before .before .before .before .before .before .args .x) (c .before .before .before .before .before .before .before .before .before .before .before .before .pre .4) _ _ (c .before .before .turn2 .result) (spot-of (c .before .before .before .before .before .before .before .before .before .before .before .before .pre .0) (c .before .before .before .before .before .before .before .before .before .before .before .before .pre .1) (c .before .before .before .before .before .before .before .before .before .before .before .before .args .x) (c .before .before .before .before .before .before .turn .result) (c .before .before .before .before .before .before .turn .ensures .0)) refl (c .before .before .before .if1 .left) (c .before .before .turn2 .ensures .0)) .1) (c .visit .ensures))
 
--- src/lib.rt:143:36
 add-wide8 : tie.Need-add-wide8
 add-wide8 c = omega (arith, count-small (c .before .before .before .before .before .before .before .before .before .before .before .before .pre .0) (c .before .before .before .before .before .before .before .before .before .before .before .before .pre .1) (c .before .before .before .before .before .before .before .before .before .before .before .before .args .x) (c .before .before .before .before .before .before .before .before .before .before .before .before .pre .4) (c .before .before .before .before .before .before .before .before .before .before .before .before .pre .3) ((open-way (c .before .before .before .before .before .before .before .before .before .before .before .before .pre .0) (c .before .before .before .before .before .before .before .before .before .before .before .before .pre .1) (c .before .before .before .before .before .before .before .before .before .before .before .before .args .x) (c .before .before .before .before .before .before .before .before .before .before .before .before .pre .4) _ _ (c .before .before .turn2 .result) (spot-of (c .before .before .before .before .before .before .before .before .before .before .before .before .pre .0) (c .before .before .before .before .before .before .before .before .before .before .before .before .pre .1) (c .before .before .before .before .before .before .before .before .before .before .before .before .args .x) (c .before .before .before .before .before .before .turn .result) (c .before .before .before .before .before .before .turn .ensures .0)) refl (c .before .before .before .if1 .left) (c .before .before .turn2 .ensures .0)) .1) (c .visit .ensures), open-small (c .before .before .before .before .before .before .before .before .before .before .before .before .pre .0) (c .before .before .before .before .before .before .before .before .before .before .before .before .pre .1) (c .before .before .before .before .before .before .before .before .before .before .before .before .args .x) (c .before .before .before .before .before .before .before .before .before .before .before .before .pre .4) (c .before .before .before .before .before .before .before .before .before .before .before .before .pre .3) ((open-way (c .before .before .before .before .before .before .before .before .before .before .before .before .pre .0) (c .before .before .before .before .before .before .before .before .before .before .before .before .pre .1) (c .before .before .before .before .before .before .before .before .before .before .before .before .args .x) (c .before .before .before .before .before .before .before .before .before .before .before .before .pre .4) _ _ (c .before .before .turn2 .result) (spot-of (c .before .before .before .before .before .before .before .before .before .before .before .before .pre .0) (c .before .before .before .before .before .before .before .before .before .before .before .before .pre .1) (c .before .before .before .before .before .before .before .before .before .before .before .before .args .x) (c .before .before .before .before .before .before .turn .result) (c .before .before .before .before .before .before .turn .ensures .0)) refl (c .before .before .before .if1 .left) (c .before .before .turn2 .ensures .0)) .1))
 
--- src/lib.rt:143:30
 shared-slice-read-wide8 : tie.Need-shared-slice-read-wide8
 shared-slice-read-wide8 c = omega (arith, count-small (c .before .before .before .before .before .before .before .before .before .before .before .before .before .pre .0) (c .before .before .before .before .before .before .before .before .before .before .before .before .before .pre .1) (c .before .before .before .before .before .before .before .before .before .before .before .before .before .args .x) (c .before .before .before .before .before .before .before .before .before .before .before .before .before .pre .4) (c .before .before .before .before .before .before .before .before .before .before .before .before .before .pre .3) ((open-way (c .before .before .before .before .before .before .before .before .before .before .before .before .before .pre .0) (c .before .before .before .before .before .before .before .before .before .before .before .before .before .pre .1) (c .before .before .before .before .before .before .before .before .before .before .before .before .before .args .x) (c .before .before .before .before .before .before .before .before .before .before .before .before .before .pre .4) _ _ (c .before .before .before .turn2 .result) (spot-of (c .before .before .before .before .before .before .before .before .before .before .before .before .before .pre .0) (c .before .before .before .before .before .before .before .before .before .before .before .before .before .pre .1) (c .before .before .before .before .before .before .before .before .before .before .before .before .before .args .x) (c .before .before .before .before .before .before .before .turn .result) (c .before .before .before .before .before .before .before .turn .ensures .0)) refl (c .before .before .before .before .if1 .left) (c .before .before .before .turn2 .ensures .0)) .1) (c .before .visit .ensures), open-small (c .before .before .before .before .before .before .before .before .before .before .before .before .before .pre .0) (c .before .before .before .before .before .before .before .before .before .before .before .before .before .pre .1) (c .before .before .before .before .before .before .before .before .before .before .before .before .before .args .x) (c .before .before .before .before .before .before .before .before .before .before .before .before .before .pre .4) (c .before .before .before .before .before .before .before .before .before .before .before .before .before .pre .3) ((open-way (c .before .before .before .before .before .before .before .before .before .before .before .before .before .pre .0) (c .before .before .before .before .before .before .before .before .before .before .before .before .before .pre .1) (c .before .before .before .before .before .before .before .before .before .before .before .before .before .args .x) (c .before .before .before .before .before .before .before .before .before .before .before .before .before .pre .4) _ _ (c .before .before .before .turn2 .result) (spot-of (c .before .before .before .before .before .before .before .before .before .before .before .before .before .pre .0) (c .before .before .before .before .before .before .before .before .before .before .before .before .before .pre .1) (c .before .before .before .before .before .before .before .before .before .before .before .before .before .args .x) (c .before .before .before .before .before .before .before .turn .result) (c .before .before .before .before .before .before .before .turn .ensures .0)) refl (c .before .before .before .before .if1 .left) (c .before .before .before .turn2 .ensures .0)) .1), c .before .before .before .before .before .before .before .before .before .before .before .before .before .pre .0 .long)
 
--- src/lib.rt:143:24
 wide8-requires : tie.Need-wide8-requires
 wide8-requires c κs = search needs
 
--- src/lib.rt:143:16
 add-if2-2 : tie.Need-add-if2-2
 add-if2-2 c = omega (arith, c .wide8 .ensures .1, time-small (c .before .before .before .before .before .before .before .before .before .before .before .before .before .before .pre .0) (c .before .before .before .before .before .before .before .before .before .before .before .before .before .before .pre .1))
 
--- src/lib.rt:144:9
 returns-2 : tie.Need-returns-2
 returns-2 c = too-late (c .before .before .before .before .before .before .before .before .before .before .before .before .before .before .before .before .pre .0) (c .before .before .before .before .before .before .before .before .before .before .before .before .before .before .before .before .pre .1) (c .before .before .before .before .before .before .before .before .before .before .before .before .before .before .before .before .args .x) (c .before .before .before .before .before .before .before .before .before .before .before .before .before .before .before .before .pre .4) (c .before .before .before .before .before .before .before .before .before .before .before .before .before .before .before .before .pre .3) ((open-way (c .before .before .before .before .before .before .before .before .before .before .before .before .before .before .before .before .pre .0) (c .before .before .before .before .before .before .before .before .before .before .before .before .before .before .before .before .pre .1) (c .before .before .before .before .before .before .before .before .before .before .before .before .before .before .before .before .args .x) (c .before .before .before .before .before .before .before .before .before .before .before .before .before .before .before .before .pre .4) _ _ (c .before .before .before .before .before .before .turn2 .result) (spot-of (c .before .before .before .before .before .before .before .before .before .before .before .before .before .before .before .before .pre .0) (c .before .before .before .before .before .before .before .before .before .before .before .before .before .before .before .before .pre .1) (c .before .before .before .before .before .before .before .before .before .before .before .before .before .before .before .before .args .x) (c .before .before .before .before .before .before .before .before .before .before .turn .result) (c .before .before .before .before .before .before .before .before .before .before .turn .ensures .0)) refl (c .before .before .before .before .before .before .before .if1 .left) (c .before .before .before .before .before .before .turn2 .ensures .0)) .1) (c .before .before .before .before .visit .ensures) _ (c .before .before .wide8 .ensures .0) (c .if2 .taken)
 
--- src/lib.rt:146:22
 add-is-dead : tie.Need-add-is-dead
 add-is-dead c = search needs
 
--- src/lib.rt:146:8
 is-dead-requires : tie.Need-is-dead-requires
 is-dead-requires c κs = (omega (arith, c .before .before .before .before .before .before .before .before .before .before .before .before .before .before .before .before .pre .3, c .before .before .before .before .before .before .before .before .before .before .before .before .before .before .before .before .pre .0 .in-time, horizon-most (c .before .before .before .before .before .before .before .before .before .before .before .before .before .before .before .before .pre .0 .ready)), open-small (c .before .before .before .before .before .before .before .before .before .before .before .before .before .before .before .before .pre .0) (c .before .before .before .before .before .before .before .before .before .before .before .before .before .before .before .before .pre .1) (c .before .before .before .before .before .before .before .before .before .before .before .before .before .before .before .before .args .x) (c .before .before .before .before .before .before .before .before .before .before .before .before .before .before .before .before .pre .4) (c .before .before .before .before .before .before .before .before .before .before .before .before .before .before .before .before .pre .3) ((open-way (c .before .before .before .before .before .before .before .before .before .before .before .before .before .before .before .before .pre .0) (c .before .before .before .before .before .before .before .before .before .before .before .before .before .before .before .before .pre .1) (c .before .before .before .before .before .before .before .before .before .before .before .before .before .before .before .before .args .x) (c .before .before .before .before .before .before .before .before .before .before .before .before .before .before .before .before .pre .4) _ _ (c .before .before .before .before .before .before .turn2 .result) (spot-of (c .before .before .before .before .before .before .before .before .before .before .before .before .before .before .before .before .pre .0) (c .before .before .before .before .before .before .before .before .before .before .before .before .before .before .before .before .pre .1) (c .before .before .before .before .before .before .before .before .before .before .before .before .before .before .before .before .args .x) (c .before .before .before .before .before .before .before .before .before .before .turn .result) (c .before .before .before .before .before .before .before .before .before .before .turn .ensures .0)) refl (c .before .before .before .before .before .before .before .if1 .left) (c .before .before .before .before .before .before .turn2 .ensures .0)) .1), count-small (c .before .before .before .before .before .before .before .before .before .before .before .before .before .before .before .before .pre .0) (c .before .before .before .before .before .before .before .before .before .before .before .before .before .before .before .before .pre .1) (c .before .before .before .before .before .before .before .before .before .before .before .before .before .before .before .before .args .x) (c .before .before .before .before .before .before .before .before .before .before .before .before .before .before .before .before .pre .4) (c .before .before .before .before .before .before .before .before .before .before .before .before .before .before .before .before .pre .3) ((open-way (c .before .before .before .before .before .before .before .before .before .before .before .before .before .before .before .before .pre .0) (c .before .before .before .before .before .before .before .before .before .before .before .before .before .before .before .before .pre .1) (c .before .before .before .before .before .before .before .before .before .before .before .before .before .before .before .before .args .x) (c .before .before .before .before .before .before .before .before .before .before .before .before .before .before .before .before .pre .4) _ _ (c .before .before .before .before .before .before .turn2 .result) (spot-of (c .before .before .before .before .before .before .before .before .before .before .before .before .before .before .before .before .pre .0) (c .before .before .before .before .before .before .before .before .before .before .before .before .before .before .before .before .pre .1) (c .before .before .before .before .before .before .before .before .before .before .before .before .before .before .before .before .args .x) (c .before .before .before .before .before .before .before .before .before .before .turn .result) (c .before .before .before .before .before .before .before .before .before .before .turn .ensures .0)) refl (c .before .before .before .before .before .before .before .if1 .left) (c .before .before .before .before .before .before .turn2 .ensures .0)) .1) (c .before .before .before .before .visit .ensures))
 
--- src/lib.rt:147:9
 returns-3 : tie.Need-returns-3
 returns-3 c = was-dead (c .before .before .before .before .before .before .before .before .before .before .before .before .before .before .before .before .before .before .pre .0) (c .before .before .before .before .before .before .before .before .before .before .before .before .before .before .before .before .before .before .pre .1) (c .before .before .before .before .before .before .before .before .before .before .before .before .before .before .before .before .before .before .args .x) (c .before .before .before .before .before .before .before .before .before .before .before .before .before .before .before .before .before .before .pre .4) (c .before .before .before .before .before .before .before .before .before .before .before .before .before .before .before .before .before .before .pre .3) ((open-way (c .before .before .before .before .before .before .before .before .before .before .before .before .before .before .before .before .before .before .pre .0) (c .before .before .before .before .before .before .before .before .before .before .before .before .before .before .before .before .before .before .pre .1) (c .before .before .before .before .before .before .before .before .before .before .before .before .before .before .before .before .before .before .args .x) (c .before .before .before .before .before .before .before .before .before .before .before .before .before .before .before .before .before .before .pre .4) _ _ (c .before .before .before .before .before .before .before .before .turn2 .result) (spot-of (c .before .before .before .before .before .before .before .before .before .before .before .before .before .before .before .before .before .before .pre .0) (c .before .before .before .before .before .before .before .before .before .before .before .before .before .before .before .before .before .before .pre .1) (c .before .before .before .before .before .before .before .before .before .before .before .before .before .before .before .before .before .before .args .x) (c .before .before .before .before .before .before .before .before .before .before .before .before .turn .result) (c .before .before .before .before .before .before .before .before .before .before .before .before .turn .ensures .0)) refl (c .before .before .before .before .before .before .before .before .before .if1 .left) (c .before .before .before .before .before .before .before .before .turn2 .ensures .0)) .1) (c .before .before .before .before .before .before .visit .ensures) (c .before .before .before .before .before .before .before .before .before .before .before .before .before .before .before .before .before .before .args .dead .now) _ (c .before .before .before .before .before .before .before .before .before .before .before .before .before .before .before .before .before .before .pre .2) (c .before .is-dead .ensures) (c .if3 .taken)
 
--- src/lib.rt:149:8
 lets-requires : tie.Need-lets-requires
 lets-requires c κs = (omega (arith, c .before .before .before .before .before .before .before .before .before .before .before .before .before .before .before .before .before .before .pre .3, c .before .before .before .before .before .before .before .before .before .before .before .before .before .before .before .before .before .before .pre .0 .in-time, horizon-most (c .before .before .before .before .before .before .before .before .before .before .before .before .before .before .before .before .before .before .pre .0 .ready)), few-records (c .before .before .before .before .before .before .before .before .before .before .before .before .before .before .before .before .before .before .pre .0 .ready), c .before .before .before .before .before .before .before .before .before .before .before .before .before .before .before .before .before .before .pre .0 .chained)
 
--- src/lib.rt:116:1
 returns-4 : tie.Need-returns-4
 returns-4 c = clear-way (c .before .before .before .before .before .before .before .before .before .before .before .before .before .before .before .before .before .before .before .before .pre .0) (c .before .before .before .before .before .before .before .before .before .before .before .before .before .before .before .before .before .before .before .before .pre .1) (c .before .before .before .before .before .before .before .before .before .before .before .before .before .before .before .before .before .before .before .before .args .x) (c .before .before .before .before .before .before .before .before .before .before .before .before .before .before .before .before .before .before .before .before .pre .4) (c .before .before .before .before .before .before .before .before .before .before .before .before .before .before .before .before .before .before .before .before .pre .3) ((open-way (c .before .before .before .before .before .before .before .before .before .before .before .before .before .before .before .before .before .before .before .before .pre .0) (c .before .before .before .before .before .before .before .before .before .before .before .before .before .before .before .before .before .before .before .before .pre .1) (c .before .before .before .before .before .before .before .before .before .before .before .before .before .before .before .before .before .before .before .before .args .x) (c .before .before .before .before .before .before .before .before .before .before .before .before .before .before .before .before .before .before .before .before .pre .4) _ _ (c .before .before .before .before .before .before .before .before .before .before .turn2 .result) (spot-of (c .before .before .before .before .before .before .before .before .before .before .before .before .before .before .before .before .before .before .before .before .pre .0) (c .before .before .before .before .before .before .before .before .before .before .before .before .before .before .before .before .before .before .before .before .pre .1) (c .before .before .before .before .before .before .before .before .before .before .before .before .before .before .before .before .before .before .before .before .args .x) (c .before .before .before .before .before .before .before .before .before .before .before .before .before .before .turn .result) (c .before .before .before .before .before .before .before .before .before .before .before .before .before .before .turn .ensures .0)) refl (c .before .before .before .before .before .before .before .before .before .before .before .if1 .left) (c .before .before .before .before .before .before .before .before .before .before .turn2 .ensures .0)) .1) (c .before .before .before .before .before .before .before .before .visit .ensures) _ (c .before .lets .ensures) (c .if4 .taken)
 
--- src/lib.rt:116:1
 returns-5 : tie.Need-returns-5
 returns-5 c = barred-way (c .before .before .before .before .before .before .before .before .before .before .before .before .before .before .before .before .before .before .before .before .pre .0) (c .before .before .before .before .before .before .before .before .before .before .before .before .before .before .before .before .before .before .before .before .pre .1) (c .before .before .before .before .before .before .before .before .before .before .before .before .before .before .before .before .before .before .before .before .args .x) (c .before .before .before .before .before .before .before .before .before .before .before .before .before .before .before .before .before .before .before .before .pre .4) (c .before .before .before .before .before .before .before .before .before .before .before .before .before .before .before .before .before .before .before .before .pre .3) ((open-way (c .before .before .before .before .before .before .before .before .before .before .before .before .before .before .before .before .before .before .before .before .pre .0) (c .before .before .before .before .before .before .before .before .before .before .before .before .before .before .before .before .before .before .before .before .pre .1) (c .before .before .before .before .before .before .before .before .before .before .before .before .before .before .before .before .before .before .before .before .args .x) (c .before .before .before .before .before .before .before .before .before .before .before .before .before .before .before .before .before .before .before .before .pre .4) _ _ (c .before .before .before .before .before .before .before .before .before .before .turn2 .result) (spot-of (c .before .before .before .before .before .before .before .before .before .before .before .before .before .before .before .before .before .before .before .before .pre .0) (c .before .before .before .before .before .before .before .before .before .before .before .before .before .before .before .before .before .before .before .before .pre .1) (c .before .before .before .before .before .before .before .before .before .before .before .before .before .before .before .before .before .before .before .before .args .x) (c .before .before .before .before .before .before .before .before .before .before .before .before .before .before .turn .result) (c .before .before .before .before .before .before .before .before .before .before .before .before .before .before .turn .ensures .0)) refl (c .before .before .before .before .before .before .before .before .before .before .before .if1 .left) (c .before .before .before .before .before .before .before .before .before .before .turn2 .ensures .0)) .1) (c .before .before .before .before .before .before .before .before .visit .ensures) _ (c .before .lets .ensures) (c .if4 .left)
 

@@ -1,41 +1,32 @@
+-- `first_walk::turn` meets its contract, by its cases. Assumes nothing.
 use borrow.Author.Needs.{needs}
 use native.Mathlib.Omega.{arith}
 use mathlib.Core.Path.{refl}
 use Rattle.first_walk.proofs.Ways.{turn-at, turn-last}
 use Rattle.first_walk.proofs.turn.Statement.{statement}
 use Rattle.first_walk.proofs.turn.Tie as tie
-use Rattle.first_walk.proofs.turn.Reads as reads
-use Rattle.first_walk.proofs.turn.Lts as lts
 
--- src/lib.rt:58:9
 returns : tie.Need-returns
 returns c = (turn-at (c .before .args .w) (c .before .args .x) 0 (c .if1 .taken) refl, omega arith)
 
--- src/lib.rt:61:16
 sub-result : tie.Need-sub-result
 sub-result c = search needs
 
--- src/lib.rt:61:9
 returns-2 : tie.Need-returns-2
 returns-2 c = (turn-at (c .before .before .args .w) (c .before .before .args .x) 1 (c .if2 .taken) refl, omega arith)
 
--- src/lib.rt:64:9
 returns-3 : tie.Need-returns-3
 returns-3 c = (turn-at (c .before .before .before .args .w) (c .before .before .before .args .x) 2 (c .if3 .taken) refl, omega arith)
 
--- src/lib.rt:67:16
 add-result : tie.Need-add-result
 add-result c = search needs
 
--- src/lib.rt:67:9
 returns-4 : tie.Need-returns-4
 returns-4 c = (turn-at (c .before .before .before .before .args .w) (c .before .before .before .before .args .x) 3 (c .if4 .taken) refl, omega arith)
 
--- src/lib.rt:69:5
 mul-result : tie.Need-mul-result
 mul-result c = search needs
 
--- src/lib.rt:53:1
 returns-5 : tie.Need-returns-5
 returns-5 c = (turn-last (c .before .before .before .before .args .w) (c .before .before .before .before .args .x) (c .before .before .before .before .pre .2) (c .before .before .before .if1 .left) (c .before .before .if2 .left) (c .before .if3 .left) (c .if4 .left), omega arith)
 
