@@ -1,0 +1,320 @@
+//! Job sheets: accepted bytes, what stands in them, and a builder.
+
+use std::fmt;
+
+use crate::fault::{self, Fault, Refusal};
+use crate::{calls, Cause};
+
+/// The most carriers, and the length of every task list.
+pub const MOST_CARRIERS: usize = 12;
+
+/// A carrier's number, from 0.
+#[derive(Clone, Copy, PartialEq, Eq, PartialOrd, Ord, Hash, Debug)]
+pub struct Carrier(pub usize);
+
+/// A task's number, from 0.
+#[derive(Clone, Copy, PartialEq, Eq, PartialOrd, Ord, Hash, Debug)]
+pub struct Task(pub usize);
+
+/// A place of the floor: y × w + x.
+#[derive(Clone, Copy, PartialEq, Eq, PartialOrd, Ord, Hash, Debug)]
+pub struct Place(pub u16);
+
+impl fmt::Display for Carrier {
+    fn fmt(&self, f: &mut fmt::Formatter<'_>) -> fmt::Result {
+        write!(f, "carrier {}", self.0)
+    }
+}
+
+impl fmt::Display for Task {
+    fn fmt(&self, f: &mut fmt::Formatter<'_>) -> fmt::Result {
+        write!(f, "task {}", self.0)
+    }
+}
+
+impl fmt::Display for Place {
+    fn fmt(&self, f: &mut fmt::Formatter<'_>) -> fmt::Result {
+        self.0.fmt(f)
+    }
+}
+
+/// A job sheet that the planner accepts.
+#[derive(Clone, PartialEq, Eq, Hash, Debug)]
+pub struct Sheet {
+    bytes: Vec<u8>,
+}
+
+impl Sheet {
+    /// Takes bytes that are an accepted sheet; of others it says the cause, and where it lies.
+    pub fn new(bytes: impl Into<Vec<u8>>) -> Result<Sheet, Refusal> {
+        let bytes = bytes.into();
+        match Cause::check(calls::cause(&bytes)) {
+            Ok(()) => Ok(Sheet { bytes }),
+            Err(cause) => Err(fault::locate(cause, &bytes)),
+        }
+    }
+
+    /// A builder for a floor of this size, without blocked places.
+    pub fn builder(width: u8, height: u8) -> SheetBuilder {
+        SheetBuilder::new(width, height)
+    }
+
+    pub fn bytes(&self) -> &[u8] {
+        &self.bytes
+    }
+
+    pub fn into_bytes(self) -> Vec<u8> {
+        self.bytes
+    }
+
+    pub fn width(&self) -> usize {
+        self.byte(0)
+    }
+
+    pub fn height(&self) -> usize {
+        self.byte(1)
+    }
+
+    /// How many carriers there are, and as many tasks.
+    pub fn m(&self) -> usize {
+        self.byte(2)
+    }
+
+    /// The horizon H: a path has H + 1 places, for times 0 to H.
+    pub fn horizon(&self) -> usize {
+        self.byte(3)
+    }
+
+    pub fn node_limit(&self) -> usize {
+        self.byte(4) + 256 * self.byte(5)
+    }
+
+    pub fn area(&self) -> usize {
+        self.width() * self.height()
+    }
+
+    pub fn carriers(&self) -> impl Iterator<Item = Carrier> {
+        (0..self.m()).map(Carrier)
+    }
+
+    pub fn tasks(&self) -> impl Iterator<Item = Task> {
+        (0..self.m()).map(Task)
+    }
+
+    pub fn places(&self) -> impl Iterator<Item = Place> {
+        (0..self.area() as u16).map(Place)
+    }
+
+    /// Whether the place is on the floor and not blocked.
+    pub fn is_free(&self, place: Place) -> bool {
+        let place = usize::from(place.0);
+        place < self.area() && self.byte(self.grid_at() + place) == 0
+    }
+
+    /// The place in column x and row y, both from 0.
+    pub fn place(&self, x: usize, y: usize) -> Option<Place> {
+        (x < self.width() && y < self.height()).then(|| Place((y * self.width() + x) as u16))
+    }
+
+    /// Column and row of a place.
+    pub fn column_and_row(&self, place: Place) -> (usize, usize) {
+        let (place, width) = (usize::from(place.0), self.width().max(1));
+        (place % width, place / width)
+    }
+
+    /// Where the carrier stands at time 0; `None` if there is no such carrier.
+    pub fn start(&self, carrier: Carrier) -> Option<Place> {
+        let at = self.grid_at() + self.area() + 2 * carrier.0.min(MOST_CARRIERS);
+        (carrier.0 < self.m()).then(|| Place((self.byte(at) + 256 * self.byte(at + 1)) as u16))
+    }
+
+    /// The stretch of the sheet with the task's goals, two bytes each; `None` if there is no such task.
+    pub fn goal_bytes(&self, task: Task) -> Option<&[u8]> {
+        let [offset, length] = calls::task_goals(&self.bytes, task.0);
+        let stretch = self.bytes.get(offset..offset.checked_add(length)?)?;
+        (!stretch.is_empty()).then_some(stretch)
+    }
+
+    /// The task's goals in order, the last one its gate; empty if there is no such task.
+    pub fn goals(&self, task: Task) -> Vec<Place> {
+        let bytes = self.goal_bytes(task).unwrap_or_default();
+        bytes.chunks_exact(2).map(|two| Place(u16::from_le_bytes([two[0], two[1]]))).collect()
+    }
+
+    /// How many words of workspace a search or a least path on this sheet asks for.
+    pub fn workspace(&self) -> usize {
+        calls::workspace(&self.bytes)
+    }
+
+    /// How many words of output a search writes for a plan: m × (H + 1).
+    pub fn output(&self) -> usize {
+        self.m() * (self.horizon() + 1)
+    }
+
+    /// The same sheet with another node limit.
+    pub fn with_node_limit(&self, limit: u16) -> Result<Sheet, Refusal> {
+        let mut bytes = self.bytes.clone();
+        for (byte, value) in bytes.iter_mut().skip(4).zip(limit.to_le_bytes()) {
+            *byte = value;
+        }
+        Sheet::new(bytes)
+    }
+
+    fn byte(&self, at: usize) -> usize {
+        self.bytes.get(at).copied().map_or(0, usize::from)
+    }
+
+    /// The grid's offset, by the rule of the first pair.
+    fn grid_at(&self) -> usize {
+        8 + 4 * (self.m() + 2)
+    }
+}
+
+impl TryFrom<&[u8]> for Sheet {
+    type Error = Refusal;
+
+    fn try_from(bytes: &[u8]) -> Result<Sheet, Refusal> {
+        Sheet::new(bytes)
+    }
+}
+
+impl TryFrom<Vec<u8>> for Sheet {
+    type Error = Refusal;
+
+    fn try_from(bytes: Vec<u8>) -> Result<Sheet, Refusal> {
+        Sheet::new(bytes)
+    }
+}
+
+impl AsRef<[u8]> for Sheet {
+    fn as_ref(&self) -> &[u8] {
+        &self.bytes
+    }
+}
+
+/// The place of a point that is off the floor: no floor has as many.
+const OFF: u16 = u16::MAX;
+
+/// Makes a sheet. Nothing is checked before [`SheetBuilder::build`], and there by the planner.
+///
+/// ```
+/// use carrier_planner::Sheet;
+/// // Two carriers that change sides: round 6 of document 01.
+/// let sheet = Sheet::builder(2, 2)
+///     .horizon(3)
+///     .node_limit(18)
+///     .carrier(0, 0)
+///     .carrier(1, 0)
+///     .task([(1, 0), (0, 0)])
+///     .task([(0, 0), (1, 0)])
+///     .build()?;
+/// assert_eq!(sheet.bytes().len(), 40);
+/// # Ok::<(), carrier_planner::Refusal>(())
+/// ```
+#[derive(Clone, PartialEq, Eq, Debug)]
+pub struct SheetBuilder {
+    width: u8,
+    height: u8,
+    horizon: u8,
+    limit: u16,
+    blocked: Vec<u16>,
+    starts: Vec<u16>,
+    tasks: Vec<Vec<u16>>,
+}
+
+impl SheetBuilder {
+    /// A floor without blocked places, horizon 255 and node limit 4096, the most that there are.
+    pub fn new(width: u8, height: u8) -> Self {
+        SheetBuilder {
+            width,
+            height,
+            horizon: 255,
+            limit: 4096,
+            blocked: Vec::new(),
+            starts: Vec::new(),
+            tasks: Vec::new(),
+        }
+    }
+
+    pub fn horizon(mut self, horizon: u8) -> Self {
+        self.horizon = horizon;
+        self
+    }
+
+    pub fn node_limit(mut self, limit: u16) -> Self {
+        self.limit = limit;
+        self
+    }
+
+    /// Blocks the place in column x and row y; a point off the floor has no effect.
+    pub fn block(mut self, x: u8, y: u8) -> Self {
+        self.blocked.push(self.place(x, y));
+        self
+    }
+
+    /// The next carrier starts in column x and row y.
+    pub fn carrier(mut self, x: u8, y: u8) -> Self {
+        self.starts.push(self.place(x, y));
+        self
+    }
+
+    /// The next task has these goals, the last one its gate.
+    pub fn task(mut self, goals: impl IntoIterator<Item = (u8, u8)>) -> Self {
+        let goals = goals.into_iter().map(|(x, y)| self.place(x, y)).collect();
+        self.tasks.push(goals);
+        self
+    }
+
+    /// The sheet's bytes, accepted or not. A count or length that its byte or bytes cannot hold is written as the most that they
+    /// can, which is outside its range too.
+    pub fn bytes(&self) -> Vec<u8> {
+        let m = u8::try_from(self.starts.len()).unwrap_or(u8::MAX);
+        let area = usize::from(self.width) * usize::from(self.height);
+        let mut bytes = vec![self.width, self.height, m, self.horizon];
+        push(&mut bytes, self.limit.into());
+        push(&mut bytes, 0);
+        let lengths =
+            [area, 2 * self.starts.len()].into_iter().chain(self.tasks.iter().map(|goals| 2 * goals.len()));
+        let mut offset = 8 + 4 * (self.tasks.len() + 2);
+        for length in lengths {
+            push(&mut bytes, offset);
+            push(&mut bytes, length);
+            offset += length;
+        }
+        let mut grid = vec![0; area];
+        for &place in &self.blocked {
+            if let Some(byte) = grid.get_mut(usize::from(place)) {
+                *byte = 1;
+            }
+        }
+        bytes.extend(grid);
+        for &place in self.starts.iter().chain(self.tasks.iter().flatten()) {
+            push(&mut bytes, place.into());
+        }
+        bytes
+    }
+
+    /// The sheet, if the planner accepts it.
+    pub fn build(&self) -> Result<Sheet, Refusal> {
+        Sheet::new(self.bytes()).map_err(|refusal| {
+            let (carriers, tasks) = (self.starts.len(), self.tasks.len());
+            if refusal.cause == Cause::Directory && carriers != tasks {
+                Refusal { cause: refusal.cause, fault: Some(Fault::Counts { carriers, tasks }) }
+            } else {
+                refusal
+            }
+        })
+    }
+
+    fn place(&self, x: u8, y: u8) -> u16 {
+        if x < self.width && y < self.height {
+            u16::from(y) * u16::from(self.width) + u16::from(x)
+        } else {
+            OFF
+        }
+    }
+}
+
+fn push(bytes: &mut Vec<u8>, value: usize) {
+    bytes.extend(u16::try_from(value).unwrap_or(u16::MAX).to_le_bytes());
+}

@@ -1,0 +1,131 @@
+//! No input panics, and a declined call leaves what is lent as it was.
+
+use carrier_planner::{calls, *};
+use deckref::gen::{self, Rng};
+
+#[test]
+fn any_bytes() {
+    let mut rng = Rng::new(10);
+    for case in 0..20_000 {
+        let mut bytes: Vec<u8> = (0..rng.range(0, 60)).map(|_| rng.range(0, 255) as u8).collect();
+        if rng.chance(1, 2) {
+            // A header that passes, so that the directory is looked at.
+            let good = [3, 2, rng.range(1, 12) as u8, 4, 9, 0, 0, 0];
+            bytes.splice(..bytes.len().min(8), good);
+        }
+        let refusal = Sheet::new(bytes.clone()).expect_err("hardly a sheet");
+        assert!(refusal.fault.is_some(), "case {case}: {refusal}");
+        assert!(!refusal.to_string().is_empty());
+        let (mut work, mut out) = (vec![5; 20], vec![6; 20]);
+        assert_eq!(calls::search(&bytes, &mut work, &mut out)[..2], [refusal.cause.number(), 3]);
+        assert_eq!((work, out), (vec![5; 20], vec![6; 20]));
+        assert_eq!(calls::task_goals(&bytes, rng.range(0, 20)), [0, 0]);
+        assert_eq!(calls::workspace(&bytes), 0);
+    }
+}
+
+#[test]
+fn builders_of_anything() {
+    let mut rng = Rng::new(11);
+    let mut accepted = 0;
+    for _ in 0..5000 {
+        let (width, height) = (rng.range(0, 33) as u8, rng.range(0, 33) as u8);
+        let mut builder = Sheet::builder(width, height)
+            .horizon(rng.range(0, 255) as u8)
+            .node_limit(rng.pick(&[0, 1, 4096, 4096, 4096, 4097, 65535]));
+        let far = usize::from(rng.chance(1, 10));
+        let point = |rng: &mut Rng| {
+            let (x, y) = (usize::from(width).max(1) + far, usize::from(height).max(1) + far);
+            (rng.range(0, x - 1) as u8, rng.range(0, y - 1) as u8)
+        };
+        let carriers = rng.pick(&[0, 1, 1, 2, 3, 12, 13, 300]);
+        for _ in 0..carriers {
+            let (x, y) = point(&mut rng);
+            builder = builder.carrier(x, y);
+        }
+        let tasks = if rng.chance(4, 5) { carriers } else { rng.range(0, 13) };
+        for _ in 0..tasks {
+            let count = rng.pick(&[0, 1, 1, 2, 8, 9]);
+            let goals: Vec<(u8, u8)> = (0..count).map(|_| point(&mut rng)).collect();
+            builder = builder.task(goals);
+        }
+        let (x, y) = point(&mut rng);
+        match builder.block(x, y).build() {
+            Ok(sheet) => {
+                accepted += 1;
+                assert_eq!(sheet.m(), tasks);
+            }
+            Err(refusal) => assert!(refusal.fault.is_some(), "{refusal}"),
+        }
+    }
+    assert!(accepted > 500, "{accepted} accepted");
+    let huge = Sheet::builder(4, 4).carrier(0, 0).task(vec![(1, 1); 70_000]).build();
+    assert_eq!(huge.expect_err("too many goals").cause, Cause::Directory);
+    let lone = Sheet::builder(4, 4).carrier(0, 0).build().expect_err("no task");
+    assert_eq!(lone.fault, Some(Fault::Counts { carriers: 1, tasks: 0 }));
+}
+
+#[test]
+fn short_workspaces() {
+    for seed in 0..200 {
+        let sheet = Sheet::new(gen::sheet("small", seed).expect("a kind")).expect("accepted");
+        let answer = Planner::new().search(&sheet).expect("accepted");
+        for words in [0, 1, sheet.workspace() - 1] {
+            let mut lent = vec![77; words];
+            let mut planner = Planner::within(&mut lent);
+            assert_eq!(planner.search(&sheet), Err(Cause::Workspace));
+            assert_eq!(planner.least_path(&sheet, Carrier(0), Task(0), &[]), Err(Cause::Workspace));
+            assert_eq!(planner.least_path(&sheet, Carrier(usize::MAX), Task(0), &[]), Err(Cause::Number));
+            assert!(lent.iter().all(|&word| word == 77));
+        }
+        let mut lent = vec![u32::MAX; sheet.workspace() + 3];
+        let (mine, spare) = lent.split_at_mut(sheet.workspace());
+        assert_eq!(Planner::within(mine).search(&sheet), Ok(answer));
+        assert_eq!(spare, [u32::MAX; 3]);
+    }
+}
+
+#[test]
+fn wrong_numbers_and_lengths() {
+    let sheet = Sheet::builder(2, 1).horizon(1).carrier(0, 0).task([(1, 0)]).build().expect("accepted");
+    let mut planner = Planner::default();
+    let far = Constraint::Place { carrier: Carrier(usize::MAX), place: Place(0), time: 0 };
+    let late = Constraint::Move { carrier: Carrier(0), from: Place(0), to: Place(1), time: 1 };
+    for bad in [far, late] {
+        assert_eq!(planner.least_path(&sheet, Carrier(0), Task(0), &[bad]), Err(Cause::Constraints));
+    }
+    let many = vec![Constraint::Place { carrier: Carrier(0), place: Place(0), time: 1 }; 4097];
+    assert_eq!(planner.least_path(&sheet, Carrier(0), Task(0), &many), Err(Cause::Constraints));
+    assert_eq!(planner.least_path(&sheet, Carrier(0), Task(1), &[]), Err(Cause::Number));
+    assert!(sheet.start(Carrier(usize::MAX)).is_none() && sheet.goals(Task(usize::MAX)).is_empty());
+    assert!(!sheet.is_free(Place(u16::MAX)) && sheet.place(2, 0).is_none());
+    let plan = planner.search(&sheet).ok().and_then(Answer::into_plan).expect("a plan");
+    assert!(plan.path(Carrier(9)).is_empty() && plan.finish(Carrier(9)).is_none());
+    let path = [Place(0), Place(1)];
+    assert!(sheet.check(&[Task(0)], &[path]).is_ok());
+    let refused = Err(NotAPlan::Refused(Cause::Output));
+    assert_eq!(sheet.check(&[Task(0)], &[&path[..1]]), refused);
+    assert_eq!(sheet.check(&[Task(0)], &[path, path]), refused);
+    assert_eq!(sheet.check::<[Place; 2]>(&[Task(0)], &[]), refused);
+    assert_eq!(sheet.check(&[Task(0); 300], &[path]), Err(NotAPlan::Count { given: 300, carriers: 1 }));
+    let none = NotAPlan::NoSuchTask { carrier: Carrier(0), task: Task(255) };
+    assert_eq!(sheet.check(&[Task(255)], &[path]), Err(none));
+    let none = NotAPlan::NoSuchTask { carrier: Carrier(0), task: Task(usize::MAX) };
+    assert_eq!(sheet.check(&[Task(usize::MAX)], &[path]), Err(none));
+    assert_eq!(first_collision(0, 255, &[]), Err(Cause::Count));
+    assert_eq!(first_collision(1, 255, &[]), Err(Cause::Output));
+    assert_eq!(least_assignment(13, &[]), Err(Cause::Count));
+    assert_eq!(least_assignment(2, &[0; 3]), Err(Cause::Count));
+}
+
+#[test]
+fn causes_have_numbers_and_words() {
+    let numbers: Vec<u32> = Cause::all().map(Cause::number).collect();
+    assert_eq!(numbers, [1, 2, 3, 4, 5, 6, 7, 8, 9, 12, 10, 11]);
+    for cause in Cause::all() {
+        assert_eq!(Cause::from_number(cause.number()), Some(cause));
+        assert!(cause.to_string().ends_with(cause.words()));
+    }
+    assert_eq!(Cause::from_number(0), None);
+    assert_eq!(Cause::from_number(99).map(Cause::number), Some(99));
+}
