@@ -1,0 +1,112 @@
+//! Answers and refusals in words and as JSON.
+
+use carrier_planner::{Answer, Plan, Refusal, Sheet};
+
+use crate::json::{numbers, quoted};
+
+/// An answer as JSON, in one line.
+pub fn answer_json(sheet: &Sheet, answer: &Answer) -> String {
+    let (nodes, bound) = (answer.nodes(), answer.bound());
+    let head = |kind: &str| {
+        format!(
+            "\"kind\":\"{kind}\",\"nodes\":{nodes},\"bound\":{bound},\"width\":{},\"height\":{},\"horizon\":{}",
+            sheet.width(),
+            sheet.height(),
+            sheet.horizon()
+        )
+    };
+    match answer {
+        Answer::Plan { plan, .. } => format!("{{{},{}}}\n", head("plan"), plan_fields(sheet, plan)),
+        Answer::NoPlan { .. } => format!("{{{}}}\n", head("none")),
+        Answer::Spent { .. } => format!("{{{}}}\n", head("spent")),
+    }
+}
+
+/// The fields of a plan: flowtime and carriers.
+pub fn plan_fields(sheet: &Sheet, plan: &Plan) -> String {
+    let carriers: Vec<String> = plan
+        .carriers()
+        .zip(plan.tasks())
+        .map(|(carrier, &task)| {
+            format!(
+                "{{\"carrier\":{},\"task\":{},\"finish\":{},\"goals\":{},\"path\":{}}}",
+                carrier.0,
+                task.0,
+                plan.finish(carrier).unwrap_or(0),
+                numbers(sheet.goals(task)),
+                numbers(plan.path(carrier))
+            )
+        })
+        .collect();
+    format!("\"flowtime\":{},\"carriers\":[{}]", plan.flowtime(), carriers.join(","))
+}
+
+pub fn refusal_json(refusal: &Refusal) -> String {
+    let mut fields = vec![
+        "\"kind\":\"refused\"".to_string(),
+        format!("\"cause\":{}", refusal.cause.number()),
+        format!("\"words\":{}", quoted(refusal.cause.words())),
+    ];
+    if let Some(fault) = &refusal.fault {
+        fields.push(format!("\"where\":{}", quoted(&fault.to_string())));
+        fields.extend(fault.byte().map(|byte| format!("\"byte\":{byte}")));
+    }
+    format!("{{{}}}\n", fields.join(","))
+}
+
+/// "1 carrier", "2 carriers".
+pub fn count(number: usize, one: &str) -> String {
+    let many = if number == 1 { "" } else { "s" };
+    format!("{number} {one}{many}")
+}
+
+/// What an accepted sheet holds.
+pub fn summary(sheet: &Sheet) -> String {
+    let blocked = sheet.places().filter(|place| !sheet.is_free(*place)).count();
+    let words = sheet.workspace();
+    format!(
+        "accepted: a floor of {} by {}, {blocked} of its {} places blocked; {} and as many tasks; horizon {}; \
+         node limit {}; a search asks for {words} words of workspace ({} KiB)\n",
+        sheet.width(),
+        sheet.height(),
+        sheet.area(),
+        count(sheet.m(), "carrier"),
+        sheet.horizon(),
+        sheet.node_limit(),
+        words.div_ceil(256)
+    )
+}
+
+/// A heading and a sentence on what the search said.
+pub fn answer_words(sheet: &Sheet, answer: &Answer) -> (String, String) {
+    let nodes = count(answer.nodes() as usize, "node");
+    match answer {
+        Answer::Plan { plan, .. } => {
+            let last = plan.carriers().filter_map(|carrier| plan.finish(carrier)).max().unwrap_or(0);
+            (
+                format!("Plan of flowtime {}", plan.flowtime()),
+                format!(
+                    "The finishes add up to {}, and no plan for this sheet has less. The last carrier finishes at \
+                     time {last}; the horizon is {}. The search made {nodes}.",
+                    plan.flowtime(),
+                    sheet.horizon()
+                ),
+            )
+        }
+        Answer::NoPlan { .. } => (
+            "No plan".to_string(),
+            format!(
+                "However the tasks are given out, the carriers cannot all do theirs by time {} without a \
+                 collision. The search made {nodes}.",
+                sheet.horizon()
+            ),
+        ),
+        Answer::Spent { bound, .. } => (
+            "Not decided: the node limit is spent".to_string(),
+            format!(
+                "The search made {nodes}, as many as the sheet allows, and found no plan so far. There may be \
+                 one; none has a flowtime below {bound}. A higher node limit lets the search go on."
+            ),
+        ),
+    }
+}
