@@ -1,6 +1,7 @@
 //! `deckplan`: writes, plans, checks and shows carrier rounds.
 
 mod claim;
+mod floor;
 mod json;
 mod options;
 mod page;

@@ -93,6 +93,14 @@ pub fn answer_words(sheet: &Sheet, answer: &Answer) -> (String, String) {
                 ),
             )
         }
+        Answer::NoPlan { nodes: 0 } => (
+            "No plan".to_string(),
+            format!(
+                "However the tasks are given out, some carrier cannot do its task by time {}, even if the others \
+                 were not in its way. So the search made no node.",
+                sheet.horizon()
+            ),
+        ),
         Answer::NoPlan { .. } => (
             "No plan".to_string(),
             format!(

@@ -22,7 +22,6 @@ fn compile(program: &Path) {
         .arg(top().join("include"))
         .arg(top().join("examples/c/round.c"))
         .arg(archives.join("libplanner.a"))
-        .args(std::env::var("PLANNER_CC_ARGS").unwrap_or_default().split_whitespace())
         .arg("-o")
         .arg(program)
         .output()
