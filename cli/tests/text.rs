@@ -118,6 +118,36 @@ fn errors_name_the_line() {
     }
 }
 
+/// The lines of an example, without their indent.
+fn example(text: &str, first: &str, last: &str) -> String {
+    let lines = text.lines().map(str::trim).skip_while(|line| *line != first);
+    let mut taken = Vec::new();
+    for line in lines {
+        taken.push(line);
+        if line == last {
+            return taken.join("\n");
+        }
+    }
+    panic!("no example from {first} to {last}");
+}
+
+#[test]
+fn examples_are_planned() {
+    let help = deckplan(&["--help"], b"").printed();
+    let top = concat!(env!("CARGO_MANIFEST_DIR"), "/..");
+    let read = |name: &str| std::fs::read_to_string(format!("{top}/{name}")).expect(name);
+    let texts = [
+        example(&help, "horizon 12", "task a: p a"),
+        example(&read("docs/TEXT.md"), "horizon 12", "task a: p a"),
+        read("examples/sheets/crossing.txt"),
+    ];
+    for text in texts {
+        let ran = deckplan(&["plan"], text.as_bytes());
+        assert_eq!((ran.status, ran.error.as_str()), (0, ""), "{text}");
+        assert!(ran.printed().starts_with("plan "), "{text}");
+    }
+}
+
 #[test]
 fn no_text_panics() {
     let mut rng = gen::Rng::new(20);
