@@ -11,11 +11,11 @@ pub const CELL: f64 = 32.0;
 /// Room for the numbers of columns and rows.
 pub const RULER: f64 = 24.0;
 
-/// Twelve colours that people with any form of colour blindness can tell apart (M. Krzywinski), neighbours far apart. Numbers and
-/// shapes say the same as the colours do.
+/// Twelve colours, the first ones farthest apart. Any two differ by 25 or more (CIE 1976) for normal sight and as people without red,
+/// green or blue cones see them; the test below has the reckoning. Numbers and shapes say the same as the colours do.
 const COLOURS: [&str; 12] = [
-    "#008df9", "#ff6e3a", "#009f81", "#8400cd", "#ffc33b", "#a40122", "#ff5aaf", "#00c2f9", "#9f0162",
-    "#00fccf", "#e20134", "#ffb2fd",
+    "#2233ff", "#cc6655", "#aaff22", "#770077", "#aa66ff", "#dddd99", "#bb9900", "#88aadd", "#554400",
+    "#ee1188", "#33ffdd", "#5511aa",
 ];
 
 /// The colour of goals that no carrier has.
@@ -25,9 +25,9 @@ pub fn colour(carrier: Carrier) -> &'static str {
     COLOURS[carrier.0 % COLOURS.len()]
 }
 
-/// Black or white, whichever stands out more on the colour.
-pub fn ink(colour: &str) -> &'static str {
-    let part = |at: usize| {
+/// Red, green and blue as amounts of light, 0 to 1.
+fn light(colour: &str) -> [f64; 3] {
+    [1, 3, 5].map(|at| {
         let value = colour.get(at..at + 2).and_then(|two| u8::from_str_radix(two, 16).ok()).unwrap_or(0);
         let value = f64::from(value) / 255.0;
         if value <= 0.04045 {
@@ -35,8 +35,13 @@ pub fn ink(colour: &str) -> &'static str {
         } else {
             ((value + 0.055) / 1.055).powf(2.4)
         }
-    };
-    let light = 0.2126 * part(1) + 0.7152 * part(3) + 0.0722 * part(5);
+    })
+}
+
+/// Black or white, whichever stands out more on the colour.
+pub fn ink(colour: &str) -> &'static str {
+    let [red, green, blue] = light(colour);
+    let light = 0.2126 * red + 0.7152 * green + 0.0722 * blue;
     if (light + 0.05) / 0.05 > 1.05 / (light + 0.05) {
         "#000"
     } else {
@@ -295,4 +300,58 @@ pub fn visits(sheet: &Sheet, plan: &Plan, carrier: Carrier) -> Vec<usize> {
             time
         })
         .collect()
+}
+
+#[cfg(test)]
+mod tests {
+    use super::*;
+
+    /// What normal sight, and sight without red, green or blue cones, makes of red, green and blue (Machado and others, 2009).
+    const SIGHTS: [[[f64; 3]; 3]; 4] = [
+        [[1.0, 0.0, 0.0], [0.0, 1.0, 0.0], [0.0, 0.0, 1.0]],
+        [[0.152286, 1.052583, -0.204868], [0.114503, 0.786281, 0.099216], [-0.003882, -0.048116, 1.051998]],
+        [[0.367322, 0.860646, -0.227968], [0.280085, 0.672501, 0.047413], [-0.011820, 0.042940, 0.968881]],
+        [[1.255528, -0.076749, -0.178779], [-0.078411, 0.930809, 0.147602], [0.004733, 0.691367, 0.303900]],
+    ];
+
+    fn product(rows: &[[f64; 3]; 3], values: [f64; 3]) -> [f64; 3] {
+        rows.map(|row| row.iter().zip(values).map(|(a, b)| a * b).sum())
+    }
+
+    /// Lightness and the two colour axes of CIE 1976.
+    fn lab(light: [f64; 3]) -> [f64; 3] {
+        let rows = [[0.4124, 0.3576, 0.1805], [0.2126, 0.7152, 0.0722], [0.0193, 0.1192, 0.9505]];
+        let [x, y, z] = product(&rows, light.map(|value| value.clamp(0.0, 1.0)));
+        let [x, y, z] = [x / 0.95047, y, z / 1.08883].map(|value| {
+            if value > 0.008856 {
+                value.cbrt()
+            } else {
+                7.787 * value + 16.0 / 116.0
+            }
+        });
+        [116.0 * y - 16.0, 500.0 * (x - y), 200.0 * (y - z)]
+    }
+
+    #[test]
+    fn colours_can_be_told_apart() {
+        for sight in &SIGHTS {
+            let seen = COLOURS.map(|colour| lab(product(sight, light(colour))));
+            for (i, one) in seen.iter().enumerate() {
+                for (j, other) in seen.iter().enumerate().skip(i + 1) {
+                    let apart: f64 = one.iter().zip(other).map(|(a, b)| (a - b) * (a - b)).sum();
+                    assert!(apart.sqrt() >= 25.0, "{} and {}: {}", COLOURS[i], COLOURS[j], apart.sqrt());
+                }
+            }
+        }
+    }
+
+    #[test]
+    fn numbers_stand_out_on_their_colours() {
+        for colour in COLOURS {
+            let [red, green, blue] = light(colour);
+            let light = 0.2126 * red + 0.7152 * green + 0.0722 * blue;
+            let contrast = if ink(colour) == "#000" { (light + 0.05) / 0.05 } else { 1.05 / (light + 0.05) };
+            assert!(contrast >= 4.5, "{colour}: {contrast}");
+        }
+    }
 }

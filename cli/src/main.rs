@@ -145,7 +145,10 @@ fn write_text(options: &Options) -> Result<u8, Stop> {
 
 fn explain(options: &Options) -> Result<u8, Stop> {
     match sheet(options)? {
-        Ok(sheet) => say(options, report::summary(&sheet).as_bytes()).map(|()| 0),
+        Ok(sheet) => {
+            let printed = if options.json { report::summary_json(&sheet) } else { report::summary(&sheet) };
+            say(options, printed.as_bytes()).map(|()| 0)
+        }
         Err((refusal, _)) => {
             let printed =
                 if options.json { report::refusal_json(&refusal) } else { format!("refused: {refusal}\n") };

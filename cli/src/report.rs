@@ -77,6 +77,24 @@ pub fn summary(sheet: &Sheet) -> String {
     )
 }
 
+/// The same as JSON.
+pub fn summary_json(sheet: &Sheet) -> String {
+    let goals: Vec<String> = sheet.tasks().map(|task| numbers(sheet.goals(task))).collect();
+    let blocked = sheet.places().filter(|place| !sheet.is_free(*place));
+    format!(
+        "{{\"kind\":\"accepted\",\"width\":{},\"height\":{},\"horizon\":{},\"node_limit\":{},\"workspace\":{},\
+         \"blocked\":{},\"starts\":{},\"tasks\":[{}]}}\n",
+        sheet.width(),
+        sheet.height(),
+        sheet.horizon(),
+        sheet.node_limit(),
+        sheet.workspace(),
+        numbers(blocked),
+        numbers(sheet.carriers().filter_map(|carrier| sheet.start(carrier))),
+        goals.join(",")
+    )
+}
+
 /// A heading and a sentence on what the search said.
 pub fn answer_words(sheet: &Sheet, answer: &Answer) -> (String, String) {
     let nodes = count(answer.nodes() as usize, "node");

@@ -188,6 +188,9 @@ fn damaged_sheets_are_explained() {
         let json = deckplan(&["explain", "--json"], &changed).printed();
         assert!(json.starts_with("{\"kind\":\"refused\",\"cause\":"), "{json}");
     }
+    let json = "{\"kind\":\"accepted\",\"width\":2,\"height\":2,\"horizon\":3,\"node_limit\":18,\"workspace\":13360,\
+                \"blocked\":[],\"starts\":[0,1],\"tasks\":[[1,0],[0,1]]}\n";
+    assert_eq!(deckplan(&["explain", "--json"], &sheet).printed(), json);
     let cut = deckplan(&["explain"], &sheet[..30]);
     assert!(cut.printed().contains("the last pair ends at byte 40, but the sheet has 30 bytes"));
 }
