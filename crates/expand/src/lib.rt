@@ -213,7 +213,7 @@ fn make_child(
         &mut path,
         bounds,
     ) else {
-        return Grown::Made { made, latest };
+        return Grown::Made { made, latest }; // A child without a path is not made.
     };
     if made == limit {
         return Grown::Spent;

@@ -103,6 +103,7 @@ fn in_order(most: usize) -> Case {
     let (mut work, mut lists) = (vec![0; 512 * COUNT], vec![0; 12 * COUNT]);
     Case {
         inputs: tables.len(),
+        varied: false,
         ours: Box::new(move |k| {
             black_box(compare::assignments_in_order(12, &tables[k], &mut work, &mut lists));
         }),

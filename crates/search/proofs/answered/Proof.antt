@@ -45,13 +45,14 @@ write-paths-requires c κs =
     let ok = start .pre .0 in
     let s = start .args .s .now in
     let m = c .before .before .before .byte-at2 .ensures .0 in
-    let last = c .before .before .byte-at3 .ensures .0 in (
+    let last = c .before .before .byte-at3 .ensures .0 in
+    let words : c .before .before .before .byte-at2 .result * (c .before .before .byte-at3 .result + 1) ≤ length (start .args .out .now) = rw (m, last, add-one) (start .pre .3) in (
       inside (c .before .before .before .before .before),
       omega (arith, m, count-range s ok),
       omega (arith, m, count-range s ok),
       omega (arith, c .before .before .before .before .byte-at .ensures .0, width-range s ok),
       omega (arith, last, horizon-range s ok),
-      rw (m, last, add-one) (start .pre .3),
+      omega (arith, words),
     )
 
 tasks-of-requires : tie.Need-tasks-of-requires
