@@ -29,6 +29,16 @@ mod exported {
             columns: *mut i32,
             numbers: *mut u32,
         );
+        pub fn planner_assignments_in_order(
+            m: u8,
+            table: *const u16,
+            table_len: usize,
+            work: *mut u32,
+            work_len: usize,
+            lists: *mut u8,
+            lists_len: usize,
+            numbers: *mut u32,
+        );
         pub fn planner_first_collision(m: u8, h: u8, paths: *const u16, paths_len: usize, numbers: *mut u32);
         pub fn planner_check_plan(
             sheet: *const u8,
@@ -50,6 +60,9 @@ mod exported {
     }
 }
 
+/// What the numbers and lists that a call writes hold before it: no answer's usual value, so that one left unwritten would show.
+const OLD: u8 = 0xA5;
+
 /// The first cause that lies in the sheet itself, 1 to 7; 0 for an accepted sheet.
 pub fn cause(sheet: &[u8]) -> u32 {
     // SAFETY: the slice is lent whole and only read.
@@ -64,7 +77,7 @@ pub fn workspace(sheet: &[u8]) -> usize {
 
 /// Offset and length of a task's goals in the sheet, in bytes; on any cause, 1 to 8, both are 0.
 pub fn task_goals(sheet: &[u8], task: usize) -> [usize; 2] {
-    let mut numbers = [0; 2];
+    let mut numbers = [usize::from(OLD); 2];
     // SAFETY: the slice is only read; the two numbers are a list of this function's own.
     unsafe { exported::planner_task_goals(sheet.as_ptr(), sheet.len(), task, numbers.as_mut_ptr()) };
     numbers
@@ -79,7 +92,7 @@ pub fn least_path(
     out: &mut [u16],
     records: &[u16],
 ) -> [u32; 3] {
-    let mut numbers = [0; 3];
+    let mut numbers = [u32::from(OLD); 3];
     // SAFETY: what is written, `work`, `out` and the three numbers, is borrowed by this call alone.
     unsafe {
         exported::planner_least_path(
@@ -112,7 +125,9 @@ pub struct AssignmentNumbers {
 
 /// The least assignment of a table of m by m entries, row by row.
 pub fn least_assignment(m: u8, table: &[u16]) -> AssignmentNumbers {
-    let mut answer = AssignmentNumbers { numbers: [0; 3], tasks: [0; 12], rows: [0; 12], columns: [0; 12] };
+    let old = i32::from(OLD);
+    let mut answer =
+        AssignmentNumbers { numbers: [u32::from(OLD); 3], tasks: [OLD; 12], rows: [old; 12], columns: [old; 12] };
     // SAFETY: the table is only read; the four lists are this function's own and have the lengths of the header.
     unsafe {
         exported::planner_least_assignment(
@@ -128,9 +143,28 @@ pub fn least_assignment(m: u8, table: &[u16]) -> AssignmentNumbers {
     answer
 }
 
+/// Cause; how many assignments are listed, twelve bytes each, in order of sum, then of list. The workspace has 512 words for each.
+pub fn assignments_in_order(m: u8, table: &[u16], work: &mut [u32], lists: &mut [u8]) -> [u32; 2] {
+    let mut numbers = [u32::from(OLD); 2];
+    // SAFETY: what is written, `work`, `lists` and the two numbers, is borrowed by this call alone.
+    unsafe {
+        exported::planner_assignments_in_order(
+            m,
+            table.as_ptr(),
+            table.len(),
+            work.as_mut_ptr(),
+            work.len(),
+            lists.as_mut_ptr(),
+            lists.len(),
+            numbers.as_mut_ptr(),
+        )
+    };
+    numbers
+}
+
 /// Cause; 1 if there is a collision; its kind (0 place, 1 move), t, i, j, u, v.
 pub fn first_collision(m: u8, h: u8, paths: &[u16]) -> [u32; 8] {
-    let mut numbers = [0; 8];
+    let mut numbers = [u32::from(OLD); 8];
     // SAFETY: the paths are only read; the eight numbers are this function's own.
     unsafe { exported::planner_first_collision(m, h, paths.as_ptr(), paths.len(), numbers.as_mut_ptr()) };
     numbers
@@ -138,7 +172,7 @@ pub fn first_collision(m: u8, h: u8, paths: &[u16]) -> [u32; 8] {
 
 /// Cause; 1 for a plan; its flowtime.
 pub fn check_plan(sheet: &[u8], tasks: &[u8; 12], paths: &[u16]) -> [u32; 3] {
-    let mut numbers = [0; 3];
+    let mut numbers = [u32::from(OLD); 3];
     // SAFETY: sheet, tasks and paths are only read, and the task list has twelve entries by its type.
     unsafe {
         exported::planner_check_plan(
@@ -155,7 +189,7 @@ pub fn check_plan(sheet: &[u8], tasks: &[u8; 12], paths: &[u16]) -> [u32; 3] {
 
 /// Cause; kind (0 plan, 1 none, 2 spent, 3 refused); flowtime; nodes; bound; then the task of each of twelve carriers.
 pub fn search(sheet: &[u8], work: &mut [u32], out: &mut [u16]) -> [u32; 17] {
-    let mut numbers = [0; 17];
+    let mut numbers = [u32::from(OLD); 17];
     // SAFETY: what is written, `work`, `out` and the seventeen numbers, is borrowed by this call alone.
     unsafe {
         exported::planner_search(

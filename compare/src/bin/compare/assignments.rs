@@ -2,7 +2,7 @@
 //! assignments in order of the same tables.
 
 use compare::inputs::{junk, table};
-use compare::{assignments_in_order, least_assignment, Assignment};
+use compare::{assignments_in_order, least_assignment, AssignmentNumbers};
 use deckref::assign::{self, AssignmentKind, BARRED};
 use deckref::gen::Rng;
 
@@ -71,7 +71,7 @@ fn one(tally: &mut Tally, m: u8, entries: &[u16], seed: u64) {
 
 /// Row plus column price is at most each unbarred entry and equals it on the chosen ones; 0 past m, and 0 throughout without an
 /// assignment.
-fn priced(m: usize, entries: &[u16], answer: &Assignment) -> bool {
+fn priced(m: usize, entries: &[u16], answer: &AssignmentNumbers) -> bool {
     let used = if answer.numbers[1] == 1 { m } else { 0 };
     let zeros = answer.rows[used..].iter().chain(&answer.columns[used..]).all(|&price| price == 0);
     let sum = |i: usize, j: usize| i64::from(answer.rows[i]) + i64::from(answer.columns[j]);
