@@ -126,8 +126,12 @@ pub struct AssignmentNumbers {
 /// The least assignment of a table of m by m entries, row by row.
 pub fn least_assignment(m: u8, table: &[u16]) -> AssignmentNumbers {
     let old = i32::from(OLD);
-    let mut answer =
-        AssignmentNumbers { numbers: [u32::from(OLD); 3], tasks: [OLD; 12], rows: [old; 12], columns: [old; 12] };
+    let mut answer = AssignmentNumbers {
+        numbers: [u32::from(OLD); 3],
+        tasks: [OLD; 12],
+        rows: [old; 12],
+        columns: [old; 12],
+    };
     // SAFETY: the table is only read; the four lists are this function's own and have the lengths of the header.
     unsafe {
         exported::planner_least_assignment(

@@ -47,11 +47,13 @@ fn in_order(tally: &mut Tally, m: u8, entries: &[u16], seed: u64, rng: &mut Rng)
         [12, 0]
     } else {
         let first = assign::Assignments::new(usize::from(m), entries).take(records.min(fit));
-        let count = first.zip(wanted.chunks_mut(12)).map(|((_, tasks), list)| list.copy_from_slice(&tasks)).count();
+        let count =
+            first.zip(wanted.chunks_mut(12)).map(|((_, tasks), list)| list.copy_from_slice(&tasks)).count();
         [0, count as u32]
     };
     let ok = numbers == theirs && lists == wanted && (!refused || work == before);
-    let kind = if refused { "cause 12, in order".to_string() } else { format!("in order, {}", numbers[1].min(1)) };
+    let kind =
+        if refused { "cause 12, in order".to_string() } else { format!("in order, {}", numbers[1].min(1)) };
     tally.count(ok, kind, || format!("table {seed}, m {m}, in order: {numbers:?} for {theirs:?}"));
 }
 
