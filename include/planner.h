@@ -82,7 +82,8 @@ void planner_assignments_in_order(uint8_t m, const uint16_t *table, size_t table
 void planner_first_collision(uint8_t m, uint8_t h, const uint16_t *paths, size_t paths_len, uint32_t *numbers);
 
 /* The search for a plan of least flowtime: constraints on colliding pairs, and the assignments in their order; the cheapest open
- * node is taken first. Causes 1 to 7, 10, 11.
+ * node is taken first. Causes 1 to 7, 10, 11. It takes no memory but what is lent and its stack: 512 KiB of stack are enough (320
+ * KiB sufficed on every sheet measured, paths of 255 steps among them).
  * work: planner_workspace(sheet) words or more. What it holds before changes nothing; what it holds after an accepted call is
  *       free. A refused call leaves it as it was.
  * out: m * (H + 1) words or more. The paths of a plan are the first m * (H + 1), carrier by carrier; the other words stay. All

@@ -43,7 +43,8 @@ impl<'w> Planner<'w> {
         Planner { work: Work::Lent(workspace), out: Vec::new() }
     }
 
-    /// Searches for a plan of least flowtime. A thread with 128 KiB of stack is enough, as measured; the call does not allocate.
+    /// Searches for a plan of least flowtime. A thread with 512 KiB of stack is enough (320 KiB sufficed on every sheet measured,
+    /// paths of 255 steps among them); the call does not allocate.
     pub fn search(&mut self, sheet: &Sheet) -> Result<Answer, Cause> {
         let work = self.work.at_least(sheet.workspace())?;
         let out = at_least(&mut self.out, sheet.output()).ok_or(Cause::Output)?;
