@@ -16,7 +16,7 @@ use Rattle.expand.proofs.next_root.Tie as tie
 is-root-requires : tie.Need-is-root-requires
 is-root-requires c κs =
     let q = c .before .before .before .before .pre in
-    room-record (q .0) (c .before .before .before .before .args .n) (omega (arith, q .1, q .2 .1 .within))
+    omega (arith, room-record (q .0) (c .before .before .before .before .args .n) (omega (arith, q .1, q .2 .1 .within)))
 
 same-length : tie.Need-same-length
 same-length c = search needs
