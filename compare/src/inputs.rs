@@ -108,6 +108,21 @@ pub fn stuck(side: usize, horizon: usize, rng: &mut Rng) -> Vec<u8> {
     Draft { w: side, h: side, horizon, limit: 4096, grid, starts, tasks }.bytes()
 }
 
+/// A sheet whose search makes roots alone: two carriers in a stretch of two places must change places at every step, so that no
+/// child has a path; the others stand too far apart to collide as early.
+pub fn roots_alone() -> Vec<u8> {
+    let side = 14;
+    let mut grid = vec![0; side * side];
+    for place in [2, side, side + 1] {
+        grid[place] = 1;
+    }
+    let apart: Vec<usize> = (0..10).map(|i| (3 + 3 * (i / 4)) * side + 2 + 3 * (i % 4)).collect();
+    let starts = [0, 1].into_iter().chain(apart.iter().copied()).collect();
+    let to_and_fro = |first: usize| (first..first + 8).map(|goal| goal % 2).collect();
+    let tasks = [to_and_fro(1), to_and_fro(0)].into_iter().chain(apart.iter().map(|&place| vec![place])).collect();
+    Draft { w: side, h: side, horizon: 7, limit: 4096, grid, starts, tasks }.bytes()
+}
+
 /// A sheet with another node limit.
 pub fn with_limit(sheet: &[u8], limit: u16) -> Vec<u8> {
     let mut bytes = sheet.to_vec();

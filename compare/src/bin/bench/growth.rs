@@ -1,6 +1,6 @@
 //! What a node costs as the number of nodes grows: sheets whose search is spent at 4096 nodes, searched under smaller limits.
 
-use compare::inputs::{stuck, with_limit, Map, PLENTY};
+use compare::inputs::{roots_alone, stuck, with_limit, Map, PLENTY};
 use deckref::gen::{self, Rng};
 
 use crate::{clock, median};
@@ -20,6 +20,7 @@ pub fn print() {
         of(name, (0..400).map(|seed| map.sheet(&mut Rng::new(500 + seed))));
     }
     of("20x20 K 1, two carriers stuck", [stuck(20, 60, &mut Rng::new(5))].into_iter());
+    of("14x14 K 8, roots alone", [roots_alone()].into_iter());
     for kind in ["full", "max"] {
         of(kind, (0..60).map(|seed| gen::sheet(kind, seed).expect("a known kind")));
     }
