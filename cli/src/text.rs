@@ -67,11 +67,12 @@ pub fn sheet_of_text(text: &str) -> Result<Sheet, TextError> {
     let Some(floor) = lines.floor else {
         return wrong(lines.last, "there is no floor: a line `floor`, then the rows, one line each");
     };
+    // Before the horizon: a line that follows the floor without an empty line before it is taken as a row.
+    let width = check_rows(floor, &lines.rows)?;
+    let marks = find_marks(&lines.rows)?;
     let Some((_, horizon)) = lines.horizon else {
         return wrong(lines.last, "there is no horizon: a line such as `horizon 30`");
     };
-    let width = check_rows(floor, &lines.rows)?;
-    let marks = find_marks(&lines.rows)?;
     let floor = Floor { width, height: lines.rows.len(), marks };
     let mut builder = Sheet::builder(floor.width as u8, floor.height as u8)
         .horizon(horizon)
@@ -302,7 +303,11 @@ impl Floor {
                 let (width, height) = (self.width, self.height);
                 wrong(
                     line,
-                    format!("{text} is off the floor, which has {width} columns and {height} rows, from 0"),
+                    format!(
+                        "{text} is off the floor, whose columns are 0 to {} and rows 0 to {}",
+                        width - 1,
+                        height - 1
+                    ),
                 )
             }
             None => {
@@ -344,11 +349,20 @@ fn find_starts(lines: &Lines, floor: &Floor) -> Result<Vec<At<Point>>, TextError
     Ok(starts.into_values().collect())
 }
 
+/// Numbers in words.
+fn carriers(m: usize) -> String {
+    if m == 1 {
+        "is 1 carrier".into()
+    } else {
+        format!("are {m} carriers")
+    }
+}
+
 /// Lines and goals of the tasks, as many as carriers.
 fn find_tasks(lines: &Lines, floor: &Floor, m: usize) -> Result<Vec<At<Vec<Point>>>, TextError> {
     if let Some((number, (line, _))) = lines.tasks.iter().find(|(number, _)| **number >= m) {
         let letter = task_letter(Task(*number));
-        return wrong(*line, format!("task {letter} is one too many: there are {m} carriers"));
+        return wrong(*line, format!("task {letter} is one too many: there {}", carriers(m)));
     }
     (0..m)
         .map(|number| {
@@ -361,7 +375,10 @@ fn find_tasks(lines: &Lines, floor: &Floor, m: usize) -> Result<Vec<At<Vec<Point
                 (None, Some((line, place))) => Ok((*line, vec![*place])),
                 (None, None) => wrong(
                     lines.last,
-                    format!("there are {m} carriers, but no task {letter}: a line `task {letter}: ...`, or {letter} on the floor"),
+                    format!(
+                        "there {}, but no task {letter}: a line `task {letter}: ...`, or {letter} on the floor",
+                        carriers(m)
+                    ),
                 ),
             }
         })

@@ -67,6 +67,8 @@ fn errors_name_the_line() {
         ("", "line 1: there is no floor"),
         ("floor\nA\n\ntask a: A", "line 4: there is no horizon"),
         ("horizon 3\nfloor\n", "line 2: the floor has no rows"),
+        ("floor\nA.a\nhorizon 5\n", "line 3: `5` in column 7 of the floor"),
+        ("horizon 3\nfloor\nA.\n", "line 3: there is 1 carrier, but no task a"),
         ("horizon 256\n", "line 1: `horizon` wants a number from 0 to 255, and has `256`"),
         ("nodes 0\n", "line 1: `nodes` wants a number from 1 to 4096, and has `0`"),
         ("horizon 1\nhorizon 2\n", "line 2: a second `horizon`; the first is in line 1"),
@@ -92,7 +94,7 @@ fn errors_name_the_line() {
     }
     let tasks = [
         ("task a: q\n", "line 6: there is no q on the floor"),
-        ("task a: 3,0\n", "line 6: 3,0 is off the floor, which has 3 columns and 2 rows"),
+        ("task a: 3,0\n", "line 6: 3,0 is off the floor, whose columns are 0 to 2 and rows 0 to 1"),
         ("task a: 6\n", "line 6: 6 is off the floor"),
         ("task a: x1\n", "line 6: `x1` is no place"),
         ("task a:\n", "line 6: this task has 0 goals"),
