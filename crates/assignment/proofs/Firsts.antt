@@ -14,11 +14,10 @@ use Rattle.deck.specs.Lists.{below}
 use Rattle.deck.specs.Assignments.{barred, entryAt, sumOf, leastAssignment}
 use Rattle.deck.specs.Calls.{taskList, noTasks}
 use Rattle.meaning.specs.Meaning.{_at_, Assignment}
-use Rattle.meaning.proofs.Lists.{mem-below}
+use Rattle.meaning.proofs.Lists.{sum-same, mem-below}
 use Rattle.prices.specs.Matching.{cost, AtMost, Tight}
 use Rattle.prices.specs.Weights.{heavy, weigh, place, merged, weights, mergedWeights}
 use Rattle.prices.specs.Square.{cell, copied}
-use Rattle.prices.proofs.Sums.{sum-same}
 use Rattle.prices.proofs.Squares.{square-at}
 use Rattle.prices.proofs.Duality.{OnTight, tight-least}
 use Rattle.prices.proofs.First.{weigh-open, weigh-barred, light-unbarred, unbarred-cost, merged-none, merged-first}

@@ -3,7 +3,7 @@
 use Prim.Native.Nat.{ℕ, suc, _+_, _-_, _*_, _/_, _%_, _≤_, _<_}
 use mathlib.Core.Path.{_≡_, sym, ap, _∙_}
 use mathlib.Core.Logic.{_⊎_, ⊎-elim}
-use native.Mathlib.Nat.{mod-lt, div-add-mod', suc-mul, add-mul, mul-add, mul-le-mul, mul-comm, mul-le-mul-right, add-div-right, div-eq-of-lt, div-lt-iff-lt-mul}
+use native.Mathlib.Nat.{mod-lt, div-add-mod', suc-mul, add-mul, mul-add, mul-le-mul, mul-comm, mul-le-mul-right, add-div-right, mul-add-div-right, div-eq-of-lt, div-lt-iff-lt-mul}
 use native.Mathlib.Omega.{arith}
 use lib.Dec.{T, leb, ltb, leb→le, le→leb, ltb→lt, lt→ltb}
 use Rattle.deck.specs.Sheet.{Sheet, area}
@@ -25,6 +25,10 @@ one-row w u v z a b = ⊎-elim (λ h. absurd (omega (arith, rows-apart w u v z h
 
 pub pad-inj : (w u v : ℕ) → 0 < w → padOf w u ≡ padOf w v → u ≡ v
 pad-inj w u v z e = omega (arith, one-row w u v z (omega arith) (omega arith))
+
+-- the padded numbers of one row
+pub pad-row : (w y x : ℕ) → 0 < w → x < w → padOf w (y * w + x) ≡ y * (w + 2) + w + 3 + x
+pad-row w y x z h = omega (arith, mul-add-div-right z y x, div-eq-of-lt h, mul-add y w 2)
 
 -- one row on
 pub pad-below : (w v : ℕ) → 0 < w → padOf w (v + w) ≡ padOf w v + (w + 2)

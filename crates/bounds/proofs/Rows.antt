@@ -3,18 +3,14 @@ use Prim.Native.Nat.{ℕ, _+_, _-_, _*_, _≤_, _<_}
 use mathlib.Core.Path.{_≡_, ap, _∙_}
 use mathlib.Core.Logic.{_⊎_, ⊎-elim}
 use mathlib.Core.List.{List}
-use native.Mathlib.Nat.{zero-mul, suc-mul, add-mul, mul-add, mul-comm, mul-le-mul-right, mul-add-div-right, div-eq-of-lt}
+use native.Mathlib.Nat.{zero-mul, suc-mul, add-mul, mul-add, mul-comm, mul-le-mul-right}
 use native.Mathlib.Omega.{arith}
 use lib.ListN.{getD}
 use Rattle.kernel.proofs.Choice.{lt-or-ge}
 use Rattle.bars.specs.Padded.{padOf}
-use Rattle.bars.proofs.Grid.{size-small}
+use Rattle.bars.proofs.Grid.{pad-row, size-small}
 use Rattle.layers.specs.Fill.{Filled}
 use Rattle.layers.proofs.Fills.{filled-none, filled-all}
-
--- the padded numbers of one row
-pad-row : (w y x : ℕ) → 1 ≤ w → x < w → padOf w (y * w + x) ≡ y * (w + 2) + w + 3 + x
-pad-row w y x z h = omega (arith, mul-add-div-right z y x, div-eq-of-lt h, mul-add y w 2)
 
 rows-in : (w h y : ℕ) → y < h → y * w + w ≤ w * h
 rows-in w h y l = omega (arith, suc-mul y w, mul-le-mul-right w l, mul-comm h w)

@@ -26,7 +26,7 @@ use Rattle.layers.specs.Step.{Margin, Stepped, Seeded}
 use Rattle.layers.proofs.Stepping.{holds-margin}
 use Rattle.passes.specs.Ready.{Ready, Goals, Turned}
 use Rattle.passes.proofs.Turning.{reverse-at, goals-index, turned-goals}
-use Rattle.passes.proofs.Passing.{hind-next, step-asks, zeros-margin}
+use Rattle.passes.proofs.Passing.{holds-same, hind-next, step-asks, zeros-margin}
 use Rattle.finishes.specs.Entries.{Starts, steps, marked, Column, Passing}
 use Rattle.finishes.proofs.Marks.{marked-none, marked-more}
 
@@ -45,9 +45,6 @@ zeros n q = ⊎-elim (λ h. getD-replicate {A = ℕ} n q 0 0 h)
 
 pub chained-none : (i : ℕ) (links : List ℕ) → Chained [] i (replicate 256 0) links
 chained-none i links = record { size = length-replicate {A = ℕ} 256 0; room = omega arith; head = λ t h. zeros 256 t; link = λ k h. absurd (not-suc-le-zero h) }
-
-holds-same : {d : Sheet} {x : List ℕ} {f g : ℕ → ℕ} → ((v : ℕ) → f v ≡ g v) → Holds d x f → Holds d x g
-holds-same e h = record { size = h .size; inside = λ v l. h .inside v l ∙ e v; border = h .border }
 
 module _ (s : List ℕ) (ok : cause s ≡ 0) (j : Task) where
   abbrev d : Sheet

@@ -1,5 +1,4 @@
 -- Two tests that pass together. Assumes nothing.
-use mathlib.Core.Path.{_≡_, refl}
 use mathlib.Core.Bool.{Bool, true, false, _&&_}
 use lib.Dec.{T}
 
@@ -14,10 +13,3 @@ and-right false b t = absurd t
 pub and-both : (a b : Bool) → T a → T b → T (a && b)
 and-both true b s t = t
 and-both false b s t = absurd s
-
--- tests that pass together are one
-pub same-test : (a b : Bool) → (T a → T b) → (T b → T a) → a ≡ b
-same-test true true f g = refl
-same-test true false f g = absurd (f tt)
-same-test false true f g = absurd (g tt)
-same-test false false f g = refl

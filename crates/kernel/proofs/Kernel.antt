@@ -13,11 +13,12 @@ use Rattle.deck.specs.Sheet.{Sheet, startOf, goalsOf, lastGoal}
 use Rattle.deck.specs.declared.Carrier.{Carrier}
 use Rattle.deck.specs.declared.Task.{Task}
 use Rattle.deck.specs.declared.Constraint.{Constraint}
+use Rattle.meaning.proofs.Tests.{same-test}
 use Rattle.kernel.specs.Layers.{Parts, best, firstOf, lift, pass, front, back, rest, good, next, trace}
 use Rattle.kernel.specs.Goals.{up, lowered}
 use Rattle.kernel.specs.Parts.{partsOf}
 use Rattle.kernel.specs.Kernel.{fore, hind, onward, follow}
-use Rattle.kernel.proofs.Both.{and-left, and-right, and-both, same-test}
+use Rattle.kernel.proofs.Both.{and-left, and-right, and-both}
 use Rattle.kernel.proofs.Labels.{up-le, up-mono, lowered-iff}
 use Rattle.kernel.proofs.Choice.{best-some, best-lift, lt-or-ge}
 use Rattle.kernel.proofs.Reverse.{backward-as-forward}

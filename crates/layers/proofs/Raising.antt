@@ -9,10 +9,9 @@ use lib.ListN.{length, getD, take}
 use lib.Seq.{take-suc, take-all, length-take-le}
 use lib.Dec.{eqb, eqb·suc-suc, eqb·zero-suc}
 use borrow.Author.Tests.{ne-eqb, eqb-true}
-use Rattle.meaning.proofs.Tests.{says-eqb}
+use Rattle.meaning.proofs.Tests.{says-eqb, same-test}
 use Rattle.kernel.specs.Layers.{lift}
 use Rattle.kernel.specs.Goals.{up}
-use Rattle.kernel.proofs.Both.{same-test}
 use Rattle.kernel.proofs.Choice.{lt-or-ge}
 use Rattle.kernel.proofs.Reverse.{bump, up-end}
 use Rattle.bars.specs.Padded.{padOf}

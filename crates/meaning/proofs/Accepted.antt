@@ -1,7 +1,7 @@
 -- What an accepted sheet gives: a node limit of at least 1, a horizon of at most 255, each stretch of the directory inside the sheet,
 -- and each carrier's start on the grid. Assumes nothing.
 use Prim.Native.Nat.{ℕ, zero, suc, _+_, _*_, _≤_, _<_}
-use mathlib.Core.Path.{_≡_, ap}
+use mathlib.Core.Path.{_≡_, refl, ap}
 use mathlib.Core.Logic.{_⊎_, inl, inr}
 use mathlib.Core.Bool.{Bool, true, false, _&&_}
 use mathlib.Core.List.{List, [], _∷_}
@@ -23,8 +23,12 @@ passes : (b : Bool) (n : ℕ) {c : ℕ} → (unless b (suc n) orElse c) ≡ 0 �
 passes true n e = (tt, e)
 passes false n e = absurd (omega arith)
 
+pub first-none : (c : ℕ) {e : ℕ} → (c orElse e) ≡ 0 → (c ≡ 0) × (e ≡ 0)
+first-none zero h = (refl, h)
+first-none (suc c) h = absurd (omega arith)
+
 -- the last cause does not hold
-passes-last : (b : Bool) (n : ℕ) → unless b (suc n) ≡ 0 → T b
+pub passes-last : (b : Bool) (n : ℕ) → unless b (suc n) ≡ 0 → T b
 passes-last true n e = tt
 passes-last false n e = absurd (omega arith)
 

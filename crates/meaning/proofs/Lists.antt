@@ -11,7 +11,7 @@ use lib.ListN.{length, getD, List·getD-append}
 use lib.Seq.{getD-append-add}
 use lib.Dec.{T, leb}
 use borrow.Author.Tests.{leb-true, leb-false}
-use Rattle.deck.specs.Lists.{countFrom, below, select, each, takeLeast, pickLeast, headOf}
+use Rattle.deck.specs.Lists.{countFrom, below, sum, select, each, takeLeast, pickLeast, headOf}
 
 module _ {A B : Type 0} where
   pub mem-map : (f : A → B) (l : List A) {y : B} → Mem y (map f l) → (x : A) × Mem x l × (y ≡ f x)
@@ -34,6 +34,11 @@ module _ {A B : Type 0} where
   pub each-mem : (f : A → List B) {l : List A} {x : A} {y : B} → Mem x l → Mem y (f x) → Mem y (each f l)
   each-mem f {y} (here {x = z} {xs} e) h = in-left (each f xs) (subst (λ (v : A). Mem y (f v)) e h)
   each-mem f (there {x = z} m) h = in-right (f z) (each-mem f m h)
+
+-- sums of terms that are the same
+pub sum-same : (f g : ℕ → ℕ) (l : List ℕ) → ((i : ℕ) → Mem i l → f i ≡ g i) → sum (map f l) ≡ sum (map g l)
+sum-same f g [] h = refl
+sum-same f g (x ∷ l) h = omega (arith, h x (here refl), sum-same f g l (λ i m. h i (there m)))
 
 module _ {A : Type 0} (f : A → Bool) where
   pub mem-select : (l : List A) {x : A} → Mem x (select f l) → Mem x l × T (f x)

@@ -37,6 +37,13 @@ says-nil {l = x ∷ l} = record { fact = λ t. absurd t; test = λ e. cons≢nil
 pub says-iff : {b : Bool} {P Q : Type 0} → Says b P → P ↔ Q → Says b Q
 says-iff s e = record { fact = λ t. e .0 (s .fact t); test = λ q. s .test (e .1 q) }
 
+-- tests that pass together are one
+pub same-test : (a b : Bool) → (T a → T b) → (T b → T a) → a ≡ b
+same-test true true f g = refl
+same-test true false f g = absurd (f tt)
+same-test false true f g = absurd (g tt)
+same-test false false f g = refl
+
 pub is-true : (b : Bool) → T b → b ≡ true
 is-true true t = refl
 is-true false t = absurd t

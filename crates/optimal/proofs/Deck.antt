@@ -8,6 +8,7 @@ use mathlib.Core.Option.{Option, none, some}
 use native.Mathlib.Nat.{le-of-lt, le-of-eq, lt-trans}
 use native.Mathlib.Decide.{ℕ-discrete}
 use native.Mathlib.Omega.{arith}
+use Rattle.deck.specs.Lists.{below}
 use Rattle.deck.specs.Sheet.{Sheet, area, carrier, task, startOf}
 use Rattle.deck.specs.Paths.{finishOf, leastPath}
 use Rattle.deck.specs.Collisions.{firstCollision}
@@ -21,12 +22,12 @@ use Rattle.deck.specs.declared.Constraint.the-variants.{Place, Move}
 use Rattle.deck.specs.declared.Collision.{Collision}
 use Rattle.deck.specs.declared.Collision.the-variants.{Place as PlaceCollision, Move as MoveCollision}
 use Rattle.meaning.specs.Meaning.{_at_, Step, Path, Keeps, pathOf, Collides, FirstCollision, Assignment, Less}
-use Rattle.meaning.proofs.Lists.{Sorted}
+use Rattle.meaning.proofs.Lists.{mem-below, sum-same, Sorted}
 use Rattle.meaning.proofs.LeastPath.{LeastMeant, least-path-meant}
 use Rattle.meaning.proofs.Collisions.{FirstMeant, first-collision-meant, no-first-collides}
 use Rattle.meaning.proofs.Assignments.{in-order-meant, in-order-rising, table-at, sum-at}
 use Rattle.optimal.specs.Plans.{Rules, Legals, IsLeast, Splits, Served, Rising, Laws}
-use Rattle.optimal.proofs.Sums.{sum-same, getD-below}
+use Rattle.optimal.proofs.Sums.{getD-below}
 
 -- what is asked of a constraint: its carrier is there, its places are on the grid, and its time is in the horizon
 abbrev pub Fit : Sheet → Constraint → Type 0
@@ -114,8 +115,9 @@ module _ (d : Sheet) where
   unfolding problem
   root-sum a m =
       let (ok, open-entries) = in-order-meant (d .count) (tableOf d) a .0 m in
-      sum-same (d .count) _ _
-      (λ i h.
+      sum-same _ _ (below (d .count))
+      (λ i n.
+      let h : i < d .count = mem-below (d .count) .0 n in
       ap (finishOf d (task (a at i))) (getD-below (d .count) (λ k. pathOr (problem d) (leastPath d (carrier k) (task (a at k)) [])) i [] h)
       ∙ entry-finish i (a at i) h (ok .tasks i h) (open-entries i h))
       ∙ sym (sum-at (d .count) (tableOf d) a (ok .as-many))

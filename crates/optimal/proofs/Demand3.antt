@@ -11,9 +11,10 @@ use Rattle.deck.specs.Assignments.{barred}
 use Rattle.deck.specs.Search.{Answer, plan, noPlan, spent, flowtime, searched, cheapest}
 use Rattle.deck.specs.Planner.{problem, answerOr, planFor}
 use Rattle.meaning.specs.Meaning.{_at_, pathOf, Plan, NoPlanBelow, Right}
+use Rattle.meaning.proofs.Lists.{mem-below, sum-same}
 use Rattle.meaning.proofs.Paths.{path-finish}
 use Rattle.optimal.specs.Plans.{IsPlan, Best, NoPlanBelow as NoneBelow}
-use Rattle.optimal.proofs.Sums.{sum-same, sum-by-index, length-below, getD-below}
+use Rattle.optimal.proofs.Sums.{sum-by-index, length-below, getD-below}
 use Rattle.optimal.proofs.Optimal.{exact-best}
 use Rattle.optimal.proofs.Deck.{rules, laws}
 use Rattle.meaning.proofs.Accepted.{accepted-limit, accepted-horizon, accepted-start}
@@ -48,7 +49,7 @@ module _ (d : Sheet) where
   meant-flowtime : (a : List ℕ) (ps : List (List ℕ)) (fs : List ℕ) → Plan d a ps fs → flowtime (problem d) a ps ≡ sum fs
   unfolding problem
   meant-flowtime a ps fs p =
-      sum-same (d .count) _ _ (λ i h. path-finish (p .paths i h)) ∙ sym (sum-by-index fs (d .count) (p .a-finish-each))
+      sum-same _ _ (below (d .count)) (λ i m. path-finish (p .paths i (mem-below (d .count) .0 m))) ∙ sym (sum-by-index fs (d .count) (p .a-finish-each))
 
   none-below : (b : ℕ) → NoneBelow (problem d) (rules d) b → NoPlanBelow d b
   none-below b h a ps fs p = rw (← meant-flowtime a ps fs p) (h a ps (meant-plan a ps fs p))

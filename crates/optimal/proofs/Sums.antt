@@ -14,16 +14,9 @@ sum-map-le : (l : List ℕ) (f g : ℕ → ℕ) → ((i : ℕ) → Mem i l → f
 sum-map-le [] f g h = zero-le
 sum-map-le (x ∷ l) f g h = omega (arith, h x (here refl), sum-map-le l f g (λ i m. h i (there m)))
 
-map-same : {A : Type 0} (l : List ℕ) (f g : ℕ → A) → ((i : ℕ) → Mem i l → f i ≡ g i) → map f l ≡ map g l
-map-same [] f g h = refl
-map-same (x ∷ l) f g h = rw (h x (here refl), map-same l f g (λ i m. h i (there m)))
-
 -- a sum grows with its terms
 pub sum-le : (n : ℕ) (f g : ℕ → ℕ) → ((i : ℕ) → i < n → f i ≤ g i) → sum (map f (below n)) ≤ sum (map g (below n))
 sum-le n f g h = sum-map-le (below n) f g (λ i m. h i (mem-below n .0 m))
-
-pub sum-same : (n : ℕ) (f g : ℕ → ℕ) → ((i : ℕ) → i < n → f i ≡ g i) → sum (map f (below n)) ≡ sum (map g (below n))
-sum-same n f g h = ap sum (map-same (below n) f g (λ i m. h i (mem-below n .0 m)))
 
 pub length-below : {A : Type 0} (n : ℕ) (f : ℕ → A) → length (map f (below n)) ≡ n
 length-below n f = length-map (below n) f ∙ length-countFrom 0 n

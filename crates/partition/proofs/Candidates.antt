@@ -14,11 +14,10 @@ use Rattle.deck.specs.Lists.{below, select, headOf}
 use Rattle.deck.specs.Assignments.{barred, entryAt, sumOf, assignmentsInOrder, leastAssignment}
 use Rattle.meaning.specs.Meaning.{_at_, Assignment, Unbarred, Less}
 use Rattle.meaning.proofs.Tests.{Says, says-eqb, says-and, says-iff}
-use Rattle.meaning.proofs.Lists.{mem-select, select-mem, mem-below, sorted-select, Head, head-first}
+use Rattle.meaning.proofs.Lists.{sum-same, mem-select, select-mem, mem-below, sorted-select, Head, head-first}
 use Rattle.meaning.proofs.ListTests.{says-all}
 use Rattle.meaning.proofs.Assignments.{in-order-meant, in-order-rising, sum-at}
 use Rattle.prices.proofs.Growth.{lower}
-use Rattle.prices.proofs.Sums.{sum-same}
 use Rattle.prices.proofs.Squares.{square-at}
 use Rattle.prices.proofs.First.{is-none, is-least}
 use Rattle.partition.specs.Parts.{Part, inPart, InPart, candidate, partEntry, partTable}

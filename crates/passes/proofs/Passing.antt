@@ -30,7 +30,7 @@ use Rattle.passes.specs.Ready.{Ready, Goals, Turned, Early}
 use Rattle.passes.proofs.Turning.{reverse-at, goals-index}
 use Rattle.passes.proofs.Given.{wide-one, wide-most, high-one, high-most, begins-free, ends-free, few-goals, few-records, on-layer, pad-small}
 
-holds-same : {d : Sheet} {x : List ℕ} {f g : ℕ → ℕ} → ((v : ℕ) → f v ≡ g v) → Holds d x f → Holds d x g
+pub holds-same : {d : Sheet} {x : List ℕ} {f g : ℕ → ℕ} → ((v : ℕ) → f v ≡ g v) → Holds d x f → Holds d x g
 holds-same e h = record { size = h .size; inside = λ v l. h .inside v l ∙ e v; border = h .border }
 
 module _ (s : List ℕ) (i : Carrier) (j : Task) (mask rs : List ℕ) (r : Ready s i j mask rs) where

@@ -1,32 +1,23 @@
 -- The whole call: what no cause says, and the record of the call. Assumes nothing.
 use Prim.Native.Nat.{ℕ, zero, suc, _≤_, _<_}
-use mathlib.Core.Path.{_≡_, refl, sym, ap, _∙_, subst}
+use mathlib.Core.Path.{_≡_, refl}
 use mathlib.Core.Logic.{_≢_}
-use mathlib.Core.Bool.{Bool, true, false, _&&_}
+use mathlib.Core.Bool.{_&&_}
 use mathlib.Core.List.{List}
-use native.Mathlib.Omega.{arith}
 use lib.ListN.{length}
 use lib.Dec.{T, leb, ltb, leb→le, ltb→lt}
-use Rattle.deck.specs.Sheet.{Sheet, read, countOf, horizonOf, cause, unless, _orElse_}
+use Rattle.deck.specs.Sheet.{read, countOf, horizonOf, cause, unless}
 use Rattle.deck.specs.Paths.{leastPath}
-use Rattle.deck.specs.Calls.{constraintsOf, goodRecords, workspaceFor, workspaceCause, outputCause, pathFound, pathWritten, pathCause, pathAnswerFor, pathOutputFor, PathCall}
+use Rattle.deck.specs.Calls.{constraintsOf, goodRecords, workspaceFor, workspaceCause, pathFound, pathWritten, pathCause, pathAnswerFor, pathOutputFor, PathCall}
 use Rattle.deck.specs.declared.Carrier.{Carrier}
 use Rattle.deck.specs.declared.Task.{Task}
 use Rattle.deck.specs.declared.PathAnswer.{PathAnswer}
 use Rattle.deck.specs.declared.PathAnswer.the-variants.{Refused}
+use Rattle.meaning.proofs.Accepted.{first-none, passes-last}
 use Rattle.kernel.proofs.Both.{and-left, and-right}
 use Rattle.bars.specs.Padded.{MaskOf}
 use Rattle.passes.specs.Ready.{Ready, roomFor}
 use Rattle.path.proofs.Finding.{enough-room}
-
--- a cause that does not hold leaves the next ones
-first-none : (c : ℕ) {e : ℕ} → (c orElse e) ≡ 0 → (c ≡ 0) × (e ≡ 0)
-first-none zero h = (refl, h)
-first-none (suc c) h = absurd (omega arith)
-
-none-says : (b : Bool) (n : ℕ) → unless b (suc n) ≡ 0 → T b
-none-says true n h = tt
-none-says false n h = absurd (omega arith)
 
 module _ (s : List ℕ) (i : Carrier) (j : Task) (work out : ℕ) (rs : List ℕ) (ok : pathCause s i j work out rs ≡ 0) where
   -- what no cause says
@@ -45,14 +36,14 @@ module _ (s : List ℕ) (i : Carrier) (j : Task) (work out : ℕ) (rs : List ℕ
       let c2 = first-none (unless (ltb (i .0) (countOf s) && ltb (j .0) (countOf s)) 8) (c1 .1) in
       let c3 = first-none (unless (goodRecords (read s) rs) 9) (c2 .1) in
       let c4 = first-none (workspaceCause (read s) work) (c3 .1) in
-      let b = none-says (ltb (i .0) (countOf s) && ltb (j .0) (countOf s)) 7 (c2 .0) in
+      let b = passes-last (ltb (i .0) (countOf s) && ltb (j .0) (countOf s)) 7 (c2 .0) in
       record {
         accepted = c1 .0;
         carrier-in = ltb→lt (i .0) (countOf s) (and-left (ltb (i .0) (countOf s)) (ltb (j .0) (countOf s)) b);
         task-in = ltb→lt (j .0) (countOf s) (and-right (ltb (i .0) (countOf s)) (ltb (j .0) (countOf s)) b);
-        records = none-says (goodRecords (read s) rs) 8 (c3 .0);
-        room = leb→le (workspaceFor (read s)) work (none-says (leb (workspaceFor (read s)) work) 9 (c4 .0));
-        long = leb→le (suc (horizonOf s)) out (none-says (leb (suc (horizonOf s)) out) 10 (c4 .1));
+        records = passes-last (goodRecords (read s) rs) 8 (c3 .0);
+        room = leb→le (workspaceFor (read s)) work (passes-last (leb (workspaceFor (read s)) work) 9 (c4 .0));
+        long = leb→le (suc (horizonOf s)) out (passes-last (leb (suc (horizonOf s)) out) 10 (c4 .1));
       }
 
   pub ready-of : (mask : List ℕ) → MaskOf (read s) mask → Ready s i j mask rs

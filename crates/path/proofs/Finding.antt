@@ -1,28 +1,23 @@
 -- From the least time to the answer and the words of the call. Assumes nothing.
-use Prim.Native.Nat.{ℕ, zero, suc, _+_, _-_, _*_, _≤_, _<_, zero-le}
-use mathlib.Core.Path.{_≡_, refl, sym, ap, _∙_, subst}
-use mathlib.Core.Logic.{_≢_}
-use mathlib.Core.Bool.{Bool, true, false, _&&_}
+use Prim.Native.Nat.{ℕ, suc, _+_, _-_, _*_, _≤_, _<_, zero-le}
+use mathlib.Core.Path.{_≡_, refl, sym, _∙_, subst}
+use mathlib.Core.Bool.{Bool, true}
 use mathlib.Core.List.{List}
-use mathlib.Core.Option.{none, some}
-use native.Mathlib.Nat.{mul-le-mul, mul-le-mul-left, mul-comm}
+use native.Mathlib.Nat.{mul-le-mul}
 use native.Mathlib.Omega.{arith}
 use lib.ListN.{length, getD}
-use lib.Dec.{T, leb, ltb, leb→le, ltb→lt}
-use borrow.Author.Tests.{ltb-true, leb-true}
-use Rattle.deck.specs.Sheet.{Sheet, read, area, startOf, goalsOf, lastGoal, mostGoals, countOf, cause, unless, _orElse_}
-use Rattle.deck.specs.Paths.{leastPath, finishOf}
-use Rattle.deck.specs.Calls.{constraintsOf, goodRecords, workspaceFor, pathFound, pathWritten, overwrite, pathCause, pathAnswerFor, pathOutputFor, PathCall}
+use lib.Dec.{leb, ltb, leb→le}
+use borrow.Author.Tests.{ltb-true}
+use Rattle.deck.specs.Sheet.{Sheet, read, area, startOf, goalsOf, lastGoal, mostGoals}
+use Rattle.deck.specs.Paths.{leastPath}
+use Rattle.deck.specs.Calls.{constraintsOf, workspaceFor, pathFound, pathWritten, overwrite}
 use Rattle.deck.specs.declared.Carrier.{Carrier}
 use Rattle.deck.specs.declared.Task.{Task}
-use Rattle.deck.specs.declared.PathAnswer.{PathAnswer}
-use Rattle.deck.specs.declared.PathAnswer.the-variants.{Found, NoPath, Refused}
-use Rattle.meaning.proofs.Tests.{Says}
+use Rattle.deck.specs.declared.PathAnswer.the-variants.{Found, NoPath}
 use Rattle.kernel.specs.Parts.{stayFrom}
 use Rattle.kernel.specs.Kernel.{fore, hind, pathAt, meetsAt, LeastTime, NoEarlier}
 use Rattle.kernel.proofs.Both.{and-left}
 use Rattle.kernel.proofs.Least.{meets-can, hind-can, no-time-none, time-path, time-finish, bound-early}
-use Rattle.bars.specs.Bars.{countIn}
 use Rattle.passes.specs.Ready.{Ready, Goals, Turned, Early, roomFor}
 use Rattle.passes.proofs.Turning.{turned-goals}
 use Rattle.passes.proofs.Given.{begins-free, ends-free, in-time, few-records}

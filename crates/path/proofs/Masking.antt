@@ -1,22 +1,20 @@
 -- The mask, made row by row out of the sheet's grid bytes. Assumes nothing.
-use Prim.Native.Nat.{ℕ, zero, suc, _+_, _-_, _*_, _/_, _≤_, _<_}
+use Prim.Native.Nat.{ℕ, _+_, _-_, _*_, _≤_, _<_}
 use mathlib.Core.Path.{_≡_, refl, sym, ap, _∙_, subst}
 use mathlib.Core.Logic.{⊎-elim}
-use mathlib.Core.Bool.{true, cond, _&&_}
+use mathlib.Core.Bool.{cond}
 use mathlib.Core.List.{List}
-use native.Mathlib.Nat.{mul-add, add-mul, suc-mul, mul-comm, mul-le-mul-right, mul-add-div-right, div-eq-of-lt, div-lt-iff-lt-mul}
+use native.Mathlib.Nat.{mul-add, add-mul, suc-mul, mul-comm, mul-le-mul-right, div-lt-iff-lt-mul}
 use native.Mathlib.Omega.{arith}
-use lib.ListN.{length, getD, take, drop, replicate, length-replicate, getD-replicate, List·getD-eq-default}
+use lib.ListN.{length, getD, drop, replicate, length-replicate, getD-replicate, List·getD-eq-default}
 use lib.Seq.{getD-take, getD-drop}
-use lib.Dec.{eqb, ltb}
 use borrow.Author.Tests.{lt-ltb}
-use Rattle.deck.specs.Sheet.{Sheet, read, area, free, cause, wordAt, gridPair, gridStretch, part}
-use Rattle.meaning.proofs.Tests.{Says}
+use Rattle.deck.specs.Sheet.{Sheet, read, area, free, cause, wordAt, gridPair, gridStretch}
 use Rattle.meaning.proofs.Accepted.{accepted, accepted-inside, directory-says}
 use Rattle.sheet.proofs.Accepted.{width-range, height-range}
 use Rattle.kernel.proofs.Choice.{lt-or-ge}
 use Rattle.bars.specs.Padded.{padOf, MaskOf}
-use Rattle.bars.proofs.Grid.{size-of, size-small}
+use Rattle.bars.proofs.Grid.{pad-row, size-of, size-small}
 use Rattle.layers.specs.Fill.{Filled}
 use Rattle.path.specs.Mask.{shadeOf, Masked}
 
@@ -47,10 +45,6 @@ module _ (s : List ℕ) (ok : cause s ≡ 0) where
   z : 0 < w
   z = width-range s ok .0
 
-  -- the padded numbers of one row
-  pad-row : (y x : ℕ) → x < w → padOf w (y * w + x) ≡ y * (w + 2) + w + 3 + x
-  pad-row y x h = omega (arith, mul-add-div-right z y x, div-eq-of-lt h, mul-add y w 2)
-
   rows-in : (y : ℕ) → y < d .height → y * w + w ≤ area d
   rows-in y h = omega (arith, suc-mul y w, mul-le-mul-right w h, mul-comm (d .height) w)
 
@@ -80,7 +74,7 @@ module _ (s : List ℕ) (ok : cause s ≡ 0) where
         border = λ p b. ⊎-elim
             (λ a. f .below p a ∙ m .border p (λ v l. b v (omega arith)))
             (λ a. ⊎-elim
-            (λ c. absurd (b (y * w + (p - (y * (w + 2) + w + 3))) (omega arith) (pad-row y (p - (y * (w + 2) + w + 3)) (omega arith) ∙ omega arith)))
+            (λ c. absurd (b (y * w + (p - (y * (w + 2) + w + 3))) (omega arith) (pad-row w y (p - (y * (w + 2) + w + 3)) z (omega arith) ∙ omega arith)))
             (λ c. f .above p c ∙ m .border p (λ v l. b v (omega arith))) (lt-or-ge p (y * (w + 2) + w + 3 + w)))
             (lt-or-ge p (y * (w + 2) + w + 3));
       })
@@ -92,7 +86,7 @@ module _ (s : List ℕ) (ok : cause s ≡ 0) where
       new v a b =
           let x : ℕ = v - y * w in
           let q : v ≡ y * w + x = omega arith in
-          let p : padOf w v ≡ y * (w + 2) + w + 3 + x = ap (padOf w) q ∙ pad-row y x (omega arith) in
+          let p : padOf w v ≡ y * (w + 2) + w + 3 + x = ap (padOf w) q ∙ pad-row w y x z (omega arith) in
           let g : o + y * w + (padOf w v - (y * (w + 2) + w + 3)) ≡ o + v = omega arith in
           f .inside (padOf w v) (omega arith) (omega arith) ∙ ap (λ (k : ℕ). shadeOf (getD s k 0)) g ∙ shade-at v (omega (arith, rows-in y h))
 

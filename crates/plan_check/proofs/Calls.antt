@@ -21,14 +21,6 @@ use Rattle.plan_check.specs.Answers.{flowAnswer}
 use Rattle.plan_check.specs.Meant.{PlanFor, Meant}
 
 -- the reading
-pub read-cause : (s : List ℕ) → readCall s .cause ≡ cause s
-unfolding readCall readingFor
-read-cause s = go (cause s)
-  where
-    go : (c : ℕ) → readingFor c s .cause ≡ c
-    go zero = refl
-    go (suc c) = refl
-
 module _ (s : List ℕ) (ok : cause s ≡ 0) where
   pub read-width : readCall s .width ≡ widthOf s
   unfolding readCall readingFor

@@ -1,28 +1,22 @@
 -- Steps and finishes: what the code tests, against the definitions. Assumes nothing.
 use Prim.Native.Nat.{ℕ, _-_, _/_, _%_, _≤_, _<_}
-use mathlib.Core.Path.{_≡_, refl, sym}
+use mathlib.Core.Path.{_≡_, sym}
 use mathlib.Core.Logic.{_⊎_, inl, inr, ⊎-elim}
-use mathlib.Core.Bool.{Bool, true, false}
+use mathlib.Core.Bool.{Bool, false}
 use mathlib.Core.List.{List}
 use native.Mathlib.Nat.{eq-or-lt-of-le}
 use native.Mathlib.Omega.{arith}
 use lib.ListN.{length, getD}
-use lib.Dec.{T, eqb}
+use lib.Dec.{eqb}
 use Rattle.deck.specs.Paths.{oneApart, beside, finish}
 use Rattle.meaning.specs.Meaning.{OneApart}
-use Rattle.meaning.proofs.Tests.{Says, says-eqb, says-and, says-or, is-false}
+use Rattle.meaning.proofs.Tests.{Says, same-test, says-eqb, says-and, says-or, is-false}
 use Rattle.meaning.proofs.Paths.{apart-meant}
 use Rattle.meaning.proofs.Finish.{finish-rests, finish-least}
 
-same : (a b : Bool) → (T a → T b) → (T b → T a) → a ≡ b
-same true true f g = refl
-same true false f g = absurd (f tt)
-same false true f g = absurd (g tt)
-same false false f g = refl
-
 -- two tests that say the same are the same
 pub same-says : {a b : Bool} {P Q : Type 0} → Says a P → Says b Q → (P → Q) → (Q → P) → a ≡ b
-same-says {a} {b} s t f g = same a b (λ x. t .test (f (s .fact x))) (λ x. s .test (g (t .fact x)))
+same-says {a} {b} s t f g = same-test a b (λ x. t .test (f (s .fact x))) (λ x. s .test (g (t .fact x)))
 
 module _ (a b : ℕ) where
   pub apart-up : a < b → eqb (b - a) 1 ≡ oneApart a b

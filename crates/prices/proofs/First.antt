@@ -14,11 +14,11 @@ use borrow.Author.Tests.{eq-eqb, ne-eqb, lt-ltb, le-ltb}
 use Rattle.deck.specs.Lists.{below, countFrom, sum}
 use Rattle.deck.specs.Assignments.{barred, entryAt, sumOf, leastAssignment}
 use Rattle.meaning.specs.Meaning.{_at_, Assignment, Unbarred, StrictlyBefore, Less}
-use Rattle.meaning.proofs.Lists.{mem-below, length-countFrom}
+use Rattle.meaning.proofs.Lists.{sum-same, mem-below, length-countFrom}
 use Rattle.meaning.proofs.Assignments.{Least, least-assignment, sum-at}
 use Rattle.prices.specs.Matching.{cost, AtMost}
 use Rattle.prices.specs.Weights.{heavy, weigh, place, rank, placeOf, merged, weights, mergedWeights}
-use Rattle.prices.proofs.Sums.{sum-plus, sum-same, sum-times, map-at, assigned-sum}
+use Rattle.prices.proofs.Sums.{sum-plus, sum-times, map-at, assigned-sum}
 use Rattle.prices.proofs.Growth.{lower}
 
 -- THE ORDER IS STRICT

@@ -26,10 +26,6 @@ module _ (f g : ℕ → ℕ) where
   sum-above [] h = refl
   sum-above (x ∷ l) h = omega (arith, h x (here refl), sum-above l (λ i m. h i (there m)))
 
-  pub sum-same : (l : List ℕ) → ((i : ℕ) → Mem i l → f i ≡ g i) → sum (map f l) ≡ sum (map g l)
-  sum-same [] h = refl
-  sum-same (x ∷ l) h = omega (arith, h x (here refl), sum-same l (λ i m. h i (there m)))
-
 -- one term more at the end
 pub sum-next : (f : ℕ → ℕ) (k n : ℕ) → sum (map f (countFrom k (suc n))) ≡ sum (map f (countFrom k n)) + f (k + n)
 sum-next f k zero = let e : k + 0 ≡ k = omega arith in rw e (omega arith)

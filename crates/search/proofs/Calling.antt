@@ -21,6 +21,7 @@ use Rattle.deck.specs.Calls.{taskList, noTasks, overwrite, workspaceFor, worksp
 use Rattle.deck.specs.declared.SearchAnswer.{SearchAnswer}
 use Rattle.deck.specs.declared.SearchKind.the-variants.{Plan as PlanKind, NoPlan as NoPlanKind, Spent as SpentKind, Refused}
 use Rattle.meaning.specs.Meaning.{_at_, Assignment}
+use Rattle.meaning.proofs.Accepted.{first-none, passes-last}
 use Rattle.meaning.proofs.Fuel.{plan-answers}
 use Rattle.optimal.specs.Demand.{RightCall}
 use Rattle.optimal.proofs.Written.{call-right}
@@ -173,22 +174,14 @@ module _ (s : List ℕ) (work out : ℕ) where
       cause-none h = rw (ok, le-leb (workspaceFor (read s)) work e, le-leb (planWords (read s)) out h) refl
 
   -- what no cause says
-  first-none : (c : ℕ) {e : ℕ} → (c orElse e) ≡ 0 → (c ≡ 0) × (e ≡ 0)
-  first-none zero h = (refl, h)
-  first-none (suc c) h = absurd (omega arith)
-
-  none-says : (b : Bool) (n : ℕ) → unless b (suc n) ≡ 0 → T b
-  none-says true n h = tt
-  none-says false n h = absurd (omega arith)
-
   pub no-cause : searchCause s work out ≡ 0 → (cause s ≡ 0) × (workspaceFor (read s) ≤ work) × (planWords (read s) ≤ out)
   unfolding searchCause
   no-cause e =
       let c1 = first-none (cause s) e in
       let c2 = first-none (workspaceCause (read s) work) (c1 .1) in (
         c1 .0,
-        leb→le (workspaceFor (read s)) work (none-says (leb (workspaceFor (read s)) work) 9 (c2 .0)),
-        leb→le (planWords (read s)) out (none-says (leb (planWords (read s)) out) 10 (c2 .1)),
+        leb→le (workspaceFor (read s)) work (passes-last (leb (workspaceFor (read s)) work) 9 (c2 .0)),
+        leb→le (planWords (read s)) out (passes-last (leb (planWords (read s)) out) 10 (c2 .1)),
       )
 
 -- THE CALL

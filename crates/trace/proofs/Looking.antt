@@ -1,33 +1,28 @@
 -- A look around a place finds the next place of the trace. Assumes nothing.
-use Prim.Native.Nat.{ℕ, zero, suc, _+_, _-_, _*_, _/_, _%_, _≤_, _<_}
-use mathlib.Core.Path.{_≡_, refl, sym, ap, ap₂, _∙_, subst}
-use mathlib.Core.Logic.{_⊎_, inl, inr, ⊎-elim, _≢_}
+use Prim.Native.Nat.{ℕ, zero, suc, _+_, _-_, _≤_, _<_}
+use mathlib.Core.Path.{_≡_, refl, sym, ap, _∙_, subst}
+use mathlib.Core.Logic.{_⊎_, _≢_}
 use mathlib.Core.Bool.{Bool, true, false, cond, _&&_}
 use mathlib.Core.List.{List, [], _∷_}
 use native.Mathlib.Omega.{arith}
 use lib.ListN.{length, getD}
-use lib.Dec.{T, leb, ltb, eqb, leb→le, ltb→lt, lt→ltb}
+use lib.Dec.{T, ltb}
 use borrow.Author.Tests.{eq-eqb, ne-eqb, ltb-true}
-use Rattle.deck.specs.Sheet.{Sheet, read, area, free, carrier, startOf, goalsOf, lastGoal}
-use Rattle.deck.specs.Calls.{constraintsOf}
+use Rattle.deck.specs.Sheet.{Sheet, free, goalsOf, lastGoal}
 use Rattle.deck.specs.declared.Carrier.{Carrier}
 use Rattle.deck.specs.declared.Task.{Task}
 use Rattle.deck.specs.declared.Constraint.{Constraint}
-use Rattle.meaning.specs.Meaning.{Beside, Free}
-use Rattle.meaning.proofs.Tests.{Says, is-true}
-use Rattle.meaning.proofs.Paths.{free-meant}
+use Rattle.meaning.specs.Meaning.{Beside}
+use Rattle.meaning.proofs.Tests.{is-true}
 use Rattle.kernel.specs.Layers.{firstOf}
 use Rattle.kernel.specs.Goals.{up}
 use Rattle.kernel.specs.Near.{consIf, hasAbove, hasLeft, hasRight, hasBelow, near}
-use Rattle.kernel.specs.Parts.{freeMove, stepFree}
-use Rattle.kernel.specs.Kernel.{hind, onward, OnTime}
-use Rattle.kernel.proofs.Both.{and-left, and-right, and-both, same-test}
+use Rattle.kernel.specs.Parts.{freeMove}
+use Rattle.kernel.specs.Kernel.{hind, onward}
 use Rattle.kernel.proofs.Blocked.{hind-blocked}
-use Rattle.kernel.proofs.Choice.{lt-or-ge}
 use Rattle.bars.specs.Padded.{padOf}
 use Rattle.bars.proofs.Grid.{pad-inj}
 use Rattle.layers.specs.Raise.{GoalsAt}
-use Rattle.layers.specs.Packed.{keptAt}
 use Rattle.layers.proofs.Around.{step-near}
 use Rattle.trace.specs.Along.{Visited}
 

@@ -1,31 +1,29 @@
 -- What the code reads around a place of the trace. Assumes nothing.
-use Prim.Native.Nat.{ℕ, zero, suc, _+_, _-_, _*_, _/_, _%_, _≤_, _<_}
-use mathlib.Core.Path.{_≡_, refl, sym, ap, ap₂, _∙_, subst}
+use Prim.Native.Nat.{ℕ, suc, _+_, _-_, _/_, _%_, _≤_, _<_}
+use mathlib.Core.Path.{_≡_, refl, sym, ap, _∙_, subst}
 use mathlib.Core.Logic.{_⊎_, inl, inr}
 use mathlib.Core.Bool.{Bool, true, false, _&&_}
 use mathlib.Core.List.{List}
 use native.Mathlib.Numerals.{add-one}
-use native.Mathlib.Nat.{div-add-mod', mod-le}
+use native.Mathlib.Nat.{mod-le}
 use native.Mathlib.Omega.{arith}
-use lib.ListN.{length, getD}
-use lib.Dec.{T, leb, ltb, leb→le, le→leb, ltb→lt, lt→ltb}
-use Rattle.deck.specs.Sheet.{Sheet, read, area, free, carrier, goalsOf, lastGoal}
+use lib.ListN.{length}
+use lib.Dec.{T, leb, ltb, le→leb, ltb→lt, lt→ltb}
+use Rattle.deck.specs.Sheet.{Sheet, read, area, goalsOf}
 use Rattle.deck.specs.Calls.{constraintsOf}
 use Rattle.deck.specs.declared.Carrier.{Carrier}
 use Rattle.deck.specs.declared.Task.{Task}
 use Rattle.meaning.specs.Meaning.{Beside}
-use Rattle.meaning.proofs.Tests.{Says}
 use Rattle.meaning.proofs.Paths.{free-meant}
 use Rattle.sheet.proofs.Accepted.{area-range}
 use Rattle.kernel.specs.Near.{hasAbove, hasLeft, hasRight, hasBelow}
-use Rattle.kernel.specs.Parts.{freeMove}
 use Rattle.kernel.specs.Kernel.{hind, onward, OnTime}
 use Rattle.kernel.proofs.Near.{wide-of, right-inside, above-beside, left-beside, right-beside, below-beside}
 use Rattle.bars.specs.Padded.{padOf}
-use Rattle.bars.proofs.Grid.{pad-least, pad-most, pad-above, pad-left, pad-right, pad-below}
-use Rattle.layers.specs.Packed.{keptAt, wordsFor}
+use Rattle.bars.proofs.Grid.{pad-least, pad-above, pad-left, pad-right, pad-below}
+use Rattle.layers.specs.Packed.{keptAt}
 use Rattle.layers.proofs.Keeping.{byte-in}
-use Rattle.passes.specs.Ready.{Ready, layerAt, roomFor, Backed}
+use Rattle.passes.specs.Ready.{Ready, layerAt, Backed}
 use Rattle.passes.proofs.Given.{wide-one, wide-most, horizon-most, ends-free, few-goals, few-records, pad-small}
 use Rattle.passes.proofs.Backing.{layer-in, times-words}
 use Rattle.trace.specs.declared.Look.{Look}

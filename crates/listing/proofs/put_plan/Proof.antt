@@ -4,14 +4,15 @@ use denote.Ref.{now}
 use borrow.Author.Needs.{needs}
 use Rattle.deck.specs.Sheet.{cause, countOf, horizonOf}
 use Rattle.deck.specs.Listing.{text, textFrom}
-use Rattle.plan_check.proofs.Calls.{read-cause, read-count, read-horizon}
+use Rattle.sheet.proofs.Readings.{reading-cause}
+use Rattle.plan_check.proofs.Calls.{read-count, read-horizon}
 use Rattle.listing.proofs.Listings.{plan-none, plan-all}
 use Rattle.listing.proofs.put_plan.Statement.{statement}
 use Rattle.listing.proofs.put_plan.Tie as tie
 
 -- what is known once the sheet is accepted
 accepted : (c : tie.Else1) → cause (now (c .before .before .before .before .before .before .args .s)) ≡ 0
-accepted c = sym (read-cause _) ∙ sym (ap (λ x. x .cause) (c .before .before .read .ensures)) ∙ c .if1 .left
+accepted c = sym (reading-cause _) ∙ sym (ap (λ x. x .cause) (c .before .before .read .ensures)) ∙ c .if1 .left
 
 count-is : (c : tie.Else1) → c .before .before .read .result .count ≡ countOf (now (c .before .before .before .before .before .before .args .s))
 count-is c = ap (λ x. x .count) (c .before .before .read .ensures) ∙ read-count _ (accepted c)
@@ -23,7 +24,7 @@ read-requires : tie.Need-read-requires
 read-requires c κs = tt
 
 returns : tie.Need-returns
-returns c = plan-none (now (c .before .before .before .before .before .before .args .s)) (c .before .before .before .before .before .before .args .a) (now (c .before .before .before .before .before .before .args .paths)) (now (c .before .before .before .before .before .before .args .text)) (λ e. c .if1 .taken (ap (λ x. x .cause) (c .before .before .read .ensures) ∙ read-cause _ ∙ e))
+returns c = plan-none (now (c .before .before .before .before .before .before .args .s)) (c .before .before .before .before .before .before .args .a) (now (c .before .before .before .before .before .before .args .paths)) (now (c .before .before .before .before .before .before .args .text)) (λ e. c .if1 .taken (ap (λ x. x .cause) (c .before .before .read .ensures) ∙ reading-cause _ ∙ e))
 
 slice-aggregate-put-head : tie.Need-slice-aggregate-put-head
 slice-aggregate-put-head c = refl

@@ -1,7 +1,7 @@
 -- `path_test::words` is safe and ends: the measure is what is left of the array. Assumes nothing.
-use Prim.Native.Nat.{ℕ, _-_}
-use mathlib.Core.Path.{_≡_, sym, _∙_}
-use lib.ListN.{length, length-set, length-replicate}
+use Prim.Native.Nat.{_-_}
+use mathlib.Core.Path.{_≡_}
+use lib.ListN.{length}
 use borrow.Author.Needs.{needs}
 use Rattle.path_test.proofs.words.Statement.{statement}
 use Rattle.path_test.proofs.words.Tie as tie

@@ -17,7 +17,8 @@ use Rattle.deck.specs.Calls.{planWords}
 use Rattle.meaning.proofs.Accepted.{accepted-horizon}
 use Rattle.plan_check.specs.Answers.{flowAnswer}
 use Rattle.sheet.proofs.Accepted.{count-range}
-use Rattle.plan_check.proofs.Calls.{read-cause, read-width, read-count, read-horizon, sheet-refused, length-refused, not-assigned, not-ended, not-apart, all-tested}
+use Rattle.sheet.proofs.Readings.{reading-cause}
+use Rattle.plan_check.proofs.Calls.{read-width, read-count, read-horizon, sheet-refused, length-refused, not-assigned, not-ended, not-apart, all-tested}
 use borrow.Author.Needs.{needs}
 use Rattle.plan_check.proofs.check_plan.Statement.{statement}
 use Rattle.plan_check.proofs.check_plan.Tie as tie
@@ -27,7 +28,7 @@ abbrev start-of : tie.Else1 → tie.Start
 start-of c = c .before .before .before .before .before
 
 ok : (c : tie.Else1) → cause (now (start-of c .args .s)) ≡ 0
-ok c = sym (read-cause _) ∙ sym (ap (λ x. x .cause) (c .before .before .read .ensures)) ∙ c .if1 .left
+ok c = sym (reading-cause _) ∙ sym (ap (λ x. x .cause) (c .before .before .read .ensures)) ∙ c .if1 .left
 
 w-is : (c : tie.Else1) → c .before .before .read .result .width ≡ widthOf (now (start-of c .args .s))
 w-is c = ap (λ x. x .width) (c .before .before .read .ensures) ∙ read-width _ (ok c)
@@ -86,7 +87,7 @@ read-requires c κs = search needs
 returns : tie.Need-returns
 returns c =
     let r = c .before .before .read in
-    sheet-refused _ _ _ _ (ap (λ x. x .cause) (r .ensures) ∙ read-cause _) (c .if1 .taken)
+    sheet-refused _ _ _ _ (ap (λ x. x .cause) (r .ensures) ∙ reading-cause _) (c .if1 .taken)
 
 add-if2 : tie.Need-add-if2
 add-if2 c = omega (arith, few-times c)

@@ -1,6 +1,6 @@
 -- `tables::filled` meets its contract. Assumes nothing.
-use Prim.Native.Nat.{ℕ, _-_, _≤_}
-use mathlib.Core.Path.{_≡_, refl}
+use Prim.Native.Nat.{_-_, _≤_}
+use mathlib.Core.Path.{refl}
 use native.Mathlib.Omega.{arith}
 use Rattle.deck.specs.Assignments.{entryAt}
 use Rattle.tables.proofs.Cells.{RowsTo, rows-none, rows-more, copied-table}

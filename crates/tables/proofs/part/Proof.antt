@@ -1,6 +1,6 @@
 -- `tables::part` meets its contract. Assumes nothing.
-use Prim.Native.Nat.{ℕ, _-_, _≤_}
-use mathlib.Core.Path.{_≡_, refl}
+use Prim.Native.Nat.{_-_, _≤_}
+use mathlib.Core.Path.{refl}
 use native.Mathlib.Omega.{arith}
 use Rattle.tables.specs.Copies.{partAt, partCell}
 use Rattle.tables.proofs.Cells.{RowsTo, rows-none, rows-more, copied-part}

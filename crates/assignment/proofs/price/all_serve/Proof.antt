@@ -1,6 +1,5 @@
 -- `assignment::price::all_serve` meets its contract. Assumes nothing.
 use Prim.Native.Nat.{ℕ, _+_, _≤_, _<_, _-_}
-use mathlib.Core.Path.{_≡_}
 use mathlib.Core.Logic.{⊎-elim}
 use mathlib.Core.Bool.{false≢true}
 use native.Mathlib.Nat.{eq-or-lt-of-le, le-of-suc-le-suc}

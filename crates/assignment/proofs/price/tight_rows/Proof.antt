@@ -1,6 +1,6 @@
 -- `assignment::price::tight_rows` meets its contract. Assumes nothing.
-use Prim.Native.Nat.{ℕ, _≤_, _-_}
-use mathlib.Core.Path.{_≡_, refl, _∙_}
+use Prim.Native.Nat.{_≤_, _-_}
+use mathlib.Core.Path.{refl}
 use native.Mathlib.Omega.{arith}
 use Rattle.assignment.proofs.Priced.{TightTo, tight-more, tightly}
 use Rattle.assignment.proofs.price.tight_rows.Statement.{statement}
