@@ -96,6 +96,7 @@ module _ (d : Sheet) (limit : ℕ) (before mid after : List ℕ) (made : ℕ) (f
         node = node-new ∙ g;
         nodes = nodes-old;
         records = kept;
+        keys = old-key;
       }
 
 -- ONE PATH SET

@@ -3,6 +3,7 @@ pub mod Grid
 pub mod Chains
 pub mod Costs
 pub mod Picks
+pub mod Blocks
 pub mod Adds
 pub mod Makes
 pub mod Kept

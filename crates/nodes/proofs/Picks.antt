@@ -1,10 +1,10 @@
--- The scan of the keys finds the open node that the definition takes. Assumes nothing.
+-- The first of the least keys is that of the open node that the definition takes. Assumes nothing.
 use mathlib.Core.Path.{_≡_, refl, sym, _∙_, ap}
 use mathlib.Core.Logic.{_⊎_, inl, inr, ⊎-elim}
 use mathlib.Core.Bool.{Bool, true, false}
 use mathlib.Core.List.{List, [], map}
 use mathlib.Core.Option.{some}
-use Prim.Native.Nat.{ℕ, _+_, _*_, _-_, _<_, _≤_, min}
+use Prim.Native.Nat.{ℕ, _+_, _*_, _<_, _≤_, min}
 use native.Mathlib.Omega.{arith}
 use lib.Dec.{eqb, ltb}
 use lib.ListN.{length, getD}
@@ -14,12 +14,10 @@ use Rattle.deck.specs.Lists.{below, takeLeast}
 use Rattle.deck.specs.Sheet.{Sheet}
 use Rattle.deck.specs.Search.{Node}
 use Rattle.deck.specs.declared.Constraint.{Constraint}
-use Rattle.records.specs.Cut.{part}
 use Rattle.records.specs.Record.{fieldsAt, keyAt, closedKey, withKey}
-use Rattle.records.proofs.Cuts.{length-part, part-get}
 use Rattle.records.proofs.Frames.{key-same, key-other, key-record}
 use Rattle.nodes.specs.declared.Pick.the-variants.{Open}
-use Rattle.nodes.specs.Nodes.{costOf, nodeOf, nodeAt, isOpen, openNumbers, openedAt, LeastTo, FirstOf, Cheapest}
+use Rattle.nodes.specs.Nodes.{costOf, nodeOf, nodeAt, isOpen, openNumbers, openedAt, LeastTo, Cheapest}
 use Rattle.nodes.specs.Stored.{Fits, Stored}
 use Rattle.nodes.proofs.Tables.{map-select-same, select-none, take-map, mapped, took-first}
 use Rattle.nodes.proofs.Chains.{node-same}
@@ -47,98 +45,61 @@ least-more keys i r v e l =
 pub least-all : (keys : List ℕ) (i n r : ℕ) → i ≡ n → LeastTo keys i r → LeastTo keys n r
 least-all keys i n r e l = rw (← e) l
 
--- THE CHOICE
-module _ (limit : ℕ) (work keys : List ℕ) (made : ℕ) (e : keys ≡ part (512 * limit) (512 * limit + made - 512 * limit) work) where
-  key-part : (k : ℕ) → k < made → getD keys k 0 ≡ keyAt limit work k
-  unfolding keyAt
-  key-part k h =
-      let q : 512 * limit + made - 512 * limit ≡ made = omega arith in
-      rw (e, q) (part-get (512 * limit) made k work h)
+-- THE CHOICE: no key is less than v
+module _ (d : Sheet) (limit : ℕ) (work : List ℕ) (made : ℕ) (f : Fits d) (s : Stored d limit work made) (v : ℕ) (least : (k : ℕ) → k < made → v ≤ keyAt limit work k) where
+  open-cost : (k : ℕ) → k < made → isOpen limit work k ≡ true → keyAt limit work k ≡ costOf d (fieldsAt work k)
+  open-cost k h o = s .key k h (eqb-false (keyAt limit work k) closedKey (not-true (eqb (keyAt limit work k) closedKey) o))
 
-  length-keys : 512 * limit + made ≤ length work → length keys ≡ made
-  length-keys h =
-      let q : 512 * limit + made - 512 * limit ≡ made = omega arith in
-      rw (e, q) (length-part (512 * limit) made work h)
-
-  -- the index of the least key is below the number of nodes
-  pub first-inside : (v n : ℕ) → 512 * limit + made ≤ length work → LeastTo keys (length keys) v → (v ≡ closedKey → ⊥) → FirstOf keys v n → n < made
-  first-inside v n h l ne f = go (l .found)
+  -- no key is less than that of a closed node: none is open
+  pub picked-nothing : v ≡ closedKey → openedAt d limit work made ≡ []
+  picked-nothing q = ap (map (nodeAt d work)) (select-none (isOpen limit work) 0 made (λ k a b. shut k (omega arith)))
     where
-      go : (v ≡ closedKey) ⊎ ((k : ℕ) × (k < length keys) × (getD keys k 0 ≡ v)) → n < made
-      go (inl q) = absurd (ne q)
-      go (inr (k, b, q)) = below (ltb n made) refl
+      shut : (k : ℕ) → k < made → isOpen limit work k ≡ false
+      shut k b = go (isOpen limit work k) refl
         where
-          below : (x : Bool) → ltb n made ≡ x → n < made
-          below true y = ltb-true n made y
-          below false y = absurd (f .first k (omega (arith, ltb-false n made y, length-keys h)) q)
+          go : (x : Bool) → isOpen limit work k ≡ x → x ≡ false
+          go true o = absurd (omega (arith, least k b, open-cost k b o, cost-small d (fieldsAt work k) f))
+          go false o = refl
 
-  module _ (d : Sheet) (f : Fits d) (s : Stored d limit work made) where
-    open-cost : (k : ℕ) → k < made → isOpen limit work k ≡ true → keyAt limit work k ≡ costOf d (fieldsAt work k)
-    open-cost k h o = s .key k h (eqb-false (keyAt limit work k) closedKey (not-true (eqb (keyAt limit work k) closedKey) o))
+  -- the first of the least keys is the node that is taken
+  pub picked-open : (n cost : ℕ) → made ≤ limit → limit ≤ 4096 → 512 * limit + 4096 ≤ length work → (v ≡ closedKey → ⊥) → n < made → keyAt limit work n ≡ v → ((j : ℕ) → j < n → keyAt limit work j ≡ v → ⊥) → cost ≡ v
+      → Cheapest d limit work made (Open n cost)
+  unfolding nodeOf
+  picked-open n cost m c h ne inside key first g = (g ∙ sym paid, took)
+    where
+      opened : isOpen limit work n ≡ true
+      opened = rw (ne-eqb (keyAt limit work n) closedKey (λ q. ne (sym key ∙ q)))
 
-    -- no key is less than that of a closed node: none is open
-    pub picked-nothing : (v : ℕ) → 512 * limit + made ≤ length work → LeastTo keys (length keys) v → v ≡ closedKey → openedAt d limit work made ≡ []
-    picked-nothing v h l q = ap (map (nodeAt d work)) (select-none (isOpen limit work) 0 made (λ k a b. shut k (omega arith)))
-      where
-        shut : (k : ℕ) → k < made → isOpen limit work k ≡ false
-        shut k b = go (isOpen limit work k) refl
-          where
-            go : (x : Bool) → isOpen limit work k ≡ x → x ≡ false
-            go true o =
-                let g : v ≤ getD keys k 0 = l .least k (omega (arith, length-keys h)) in
-                absurd (omega (arith, key-part k b, open-cost k b o, cost-small d (fieldsAt work k) f))
-            go false o = refl
+      paid : costOf d (fieldsAt work n) ≡ v
+      paid = sym (open-cost n inside opened) ∙ key
 
-    -- the first of the least keys is the node that is taken
-    pub picked-open : (v n cost : ℕ) → made ≤ limit → limit ≤ 4096 → 512 * limit + 4096 ≤ length work → LeastTo keys (length keys) v → (v ≡ closedKey → ⊥) → FirstOf keys v n → cost ≡ v
-        → Cheapest d limit work made (Open n cost)
-    unfolding nodeOf
-    picked-open v n cost m c h l ne a g = (g ∙ sym paid, took)
-      where
-        size : length keys ≡ made
-        size = length-keys (omega arith)
+      no-less : (j : ℕ) → j < made → isOpen limit work j ≡ true → costOf d (fieldsAt work n) ≤ costOf d (fieldsAt work j)
+      no-less j b o = omega (arith, paid, least j b, open-cost j b o)
 
-        inside : n < made
-        inside = first-inside v n (omega arith) l ne a
+      before : (j : ℕ) → j < n → isOpen limit work j ≡ true → costOf d (fieldsAt work n) < costOf d (fieldsAt work j)
+      before j b o =
+          let i : j < made = omega arith in
+          let x : keyAt limit work j ≡ v → ⊥ = first j b in
+          omega (arith, no-less j i o, paid, open-cost j i o)
 
-        key : keyAt limit work n ≡ v
-        key = sym (key-part n inside) ∙ a .same (omega (arith, size, inside))
+      after : List ℕ
+      after = withKey limit n closedKey work
 
-        opened : isOpen limit work n ≡ true
-        opened = rw (ne-eqb (keyAt limit work n) closedKey (λ q. ne (sym key ∙ q)))
+      closed : isOpen limit after n ≡ false
+      closed = rw (key-same work limit n closedKey (omega arith))
 
-        paid : costOf d (fieldsAt work n) ≡ v
-        paid = sym (open-cost n inside opened) ∙ key
+      others : (j : ℕ) → (j ≡ n → ⊥) → isOpen limit after j ≡ isOpen limit work j
+      others j q = rw (key-other work limit n j closedKey q)
 
-        no-less : (j : ℕ) → j < made → isOpen limit work j ≡ true → costOf d (fieldsAt work n) ≤ costOf d (fieldsAt work j)
-        no-less j b o =
-            let x : v ≤ getD keys j 0 = l .least j (omega (arith, size)) in
-            omega (arith, paid, key-part j b, open-cost j b o)
+      nodes : openedAt d limit after made ≡ map (nodeAt d work) (openNumbers limit after made)
+      nodes =
+          map-select-same (nodeAt d after) (nodeAt d work) (isOpen limit after) 0 made
+          (λ k x y. node-same s after (λ j b. key-record work limit n j closedKey (omega arith) (omega arith)) k (omega arith))
 
-        before : (j : ℕ) → j < n → isOpen limit work j ≡ true → costOf d (fieldsAt work n) < costOf d (fieldsAt work j)
-        before j b o =
-            let i : j < made = omega (arith, inside) in
-            let x : getD keys j 0 ≡ v → ⊥ = a .first j b in
-            omega (arith, no-less j i o, paid, key-part j i, open-cost j i o)
-
-        after : List ℕ
-        after = withKey limit n closedKey work
-
-        closed : isOpen limit after n ≡ false
-        closed = rw (key-same work limit n closedKey (omega (arith, inside)))
-
-        others : (j : ℕ) → (j ≡ n → ⊥) → isOpen limit after j ≡ isOpen limit work j
-        others j q = rw (key-other work limit n j closedKey q)
-
-        nodes : openedAt d limit after made ≡ map (nodeAt d work) (openNumbers limit after made)
-        nodes =
-            map-select-same (nodeAt d after) (nodeAt d work) (isOpen limit after) 0 made
-            (λ k x y. node-same s after (λ j b. key-record work limit n j closedKey (omega arith) (omega (arith, inside))) k (omega arith))
-
-        took : takeLeast (λ x. x .cost) (openedAt d limit work made) ≡ some (nodeAt d work n, openedAt d limit after made)
-        took =
-            take-map (nodeAt d work) (λ x. x .cost) (openNumbers limit work made)
-            ∙ ap (mapped (nodeAt d work))
-            (took-first (λ j. nodeAt d work j .cost) (isOpen limit work) (isOpen limit after) n opened closed others 0 made (omega arith) (omega (arith, inside))
-            (λ j x y o. no-less j (omega arith) o) (λ j x y o. before j y o))
-            ∙ ap (λ (r : List (Node (List ℕ) Constraint)). some (nodeAt d work n, r)) (sym nodes)
+      took : takeLeast (λ x. x .cost) (openedAt d limit work made) ≡ some (nodeAt d work n, openedAt d limit after made)
+      took =
+          take-map (nodeAt d work) (λ x. x .cost) (openNumbers limit work made)
+          ∙ ap (mapped (nodeAt d work))
+          (took-first (λ j. nodeAt d work j .cost) (isOpen limit work) (isOpen limit after) n opened closed others 0 made (omega arith) (omega arith)
+          (λ j x y o. no-less j (omega arith) o) (λ j x y o. before j y o))
+          ∙ ap (λ (r : List (Node (List ℕ) Constraint)). some (nodeAt d work n, r)) (sym nodes)

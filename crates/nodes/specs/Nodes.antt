@@ -1,5 +1,5 @@
 -- The nodes of the search's definition that the workspace stands for. Assumes nothing.
-use Prim.Native.Nat.{ℕ, zero, suc, _+_, _*_, _<_, _≤_}
+use Prim.Native.Nat.{ℕ, zero, suc, _+_, _*_, _<_, _≤_, min}
 use mathlib.Core.Path.{_≡_}
 use mathlib.Core.Logic.{_⊎_}
 use mathlib.Core.Bool.{Bool, not}
@@ -87,6 +87,28 @@ pub record FirstOf (keys : List ℕ) (v r : ℕ) : Type 0 where
   pub inside : r ≤ length keys
   pub same : r < length keys → getD keys r 0 ≡ v
   pub first : (k : ℕ) → k < r → getD keys k 0 ≡ v → ⊥
+
+-- r is the least key of the nodes from..until, or the key of a closed node where there is none less
+pub record LeastIn (limit : ℕ) (work : List ℕ) (from until r : ℕ) : Type 0 where
+  pub low : r ≤ closedKey
+  pub least : (k : ℕ) → from ≤ k → k < until → r ≤ keyAt limit work k
+  pub found : (r ≡ closedKey) ⊎ ((k : ℕ) × (from ≤ k) × (k < until) × (keyAt limit work k ≡ r))
+
+-- r is the first of the nodes from..until whose key is v, or `until` where there is none
+pub record FirstIn (limit : ℕ) (work : List ℕ) (from until v r : ℕ) : Type 0 where
+  pub start : from ≤ r
+  pub inside : r ≤ until
+  pub same : r < until → keyAt limit work r ≡ v
+  pub first : (k : ℕ) → from ≤ k → k < r → keyAt limit work k ≡ v → ⊥
+
+-- where block b of 64 nodes ends, of the nodes that are made
+abbrev pub blockEnd : ℕ → ℕ → ℕ
+blockEnd b made = min (64 * b + 64) made
+
+-- the least keys of the blocks: `lows` has that of the nodes 64 b to 64 b + 63 that are made, for each of the 64 blocks b
+pub record Lows (limit : ℕ) (work : List ℕ) (made : ℕ) (lows : List ℕ) : Type 0 where
+  pub size : length lows ≡ 64
+  pub block : (b : ℕ) → b < 64 → LeastIn limit work (64 * b) (blockEnd b made) (getD lows b 0)
 
 -- "take the open node of least cost, then of least number": n is that node, and cost is its cost; or none is open
 abbrev pub Cheapest : Sheet → ℕ → List ℕ → ℕ → Pick → Type 0

@@ -57,6 +57,7 @@ pub record Added (d : Sheet) (limit : ℕ) (before after : List ℕ) (made : ℕ
   pub node : nodeAt d after made ≡ x
   pub nodes : (k : ℕ) → k < made → nodeAt d after k ≡ nodeAt d before k
   pub records : (k : ℕ) → k < made → fieldsAt after k ≡ fieldsAt before k
+  pub keys : (k : ℕ) → k < made → keyAt limit after k ≡ keyAt limit before k
 
 -- what a child of node n is made of: a constraint of the sheet, a path of the carrier that it binds, and the path's finish
 pub record ChildOf (d : Sheet) (limit : ℕ) (work : List ℕ) (made n : ℕ) (i : ℕ) (c : Constraint) (time : ℕ) (path : List ℕ) : Type 0 where

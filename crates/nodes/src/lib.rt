@@ -11,8 +11,8 @@ ghost use Rattle.deck.specs.Planner.{problem, boundBy};
 ghost use Rattle.deck.specs.Calls.{overwrite};
 ghost use Rattle.pack.specs.Pack.{unpackOf};
 ghost use Rattle.records.specs.Cut.{part};
-ghost use Rattle.records.specs.Record.{fieldsAt, finishesIn, packedIn, wordsOf, Small, withKey};
-ghost use Rattle.nodes.specs.Nodes.{LeastTo, FirstOf, Cheapest, InRange, Appended, Gathered, pathsIn, nodeAt};
+ghost use Rattle.records.specs.Record.{fieldsAt, finishesIn, packedIn, wordsOf, Small, withKey, closedKey};
+ghost use Rattle.nodes.specs.Nodes.{LeastTo, FirstOf, LeastIn, FirstIn, blockEnd, Lows, Cheapest, InRange, Appended, Gathered, pathsIn, nodeAt};
 ghost use Rattle.nodes.specs.Stored.{Fits, Linked, Stored, Added, ChildOf, RootSoFar};
 use deck::Carrier;
 use deck::Constraint;
@@ -81,22 +81,73 @@ fn first_of(keys: &[u32], v: u32) -> usize
     i
 }
 
-// The open node of least cost, then of least number.
-pub fn cheapest(work: &[u32], limit: usize, made: usize) -> Pick
+// The least key of the nodes from..until.
+fn least_in(work: &[u32], limit: usize, from: usize, until: usize) -> u32
+    requires { ⌜ (from ≤ until) × (until ≤ 4096) × (limit ≤ 4096) × (512 * limit + 4096 ≤ length (now work)) ⌝ }
+    ensures { λ r. ⌜ LeastIn limit (now (work .entry)) from until r ⌝ }
+{
+    let keys = 512 * limit;
+    least(&work[keys + from..keys + until])
+}
+
+// The first of the nodes from..until whose key is v.
+fn first_in(work: &[u32], limit: usize, from: usize, until: usize, v: u32) -> usize
+    requires { ⌜ (from ≤ until) × (until ≤ 4096) × (limit ≤ 4096) × (512 * limit + 4096 ≤ length (now work)) ⌝ }
+    ensures { λ r. ⌜ FirstIn limit (now (work .entry)) from until v r ⌝ }
+{
+    let keys = 512 * limit;
+    from + first_of(&work[keys + from..keys + until], v)
+}
+
+fn block_end(b: usize, made: usize) -> usize
+    requires { ⌜ b < 64 ⌝ }
+    ensures { λ r. ⌜ r ≡ blockEnd b made ⌝ }
+{
+    let end = 64 * b + 64;
+    if end < made { end } else { made }
+}
+
+// The open node of least cost, then of least number: the first block with the least key, and its first node with that key. The
+// least keys of the blocks are lent, so that a choice reads 64 of them and one block, however many nodes there are.
+pub fn cheapest(work: &[u32], limit: usize, made: usize, lows: &[u32; 64]) -> Pick
     requires { ⌜ (made ≤ limit) × (limit ≤ 4096) × (512 * limit + 4096 ≤ length (now work)) ⌝ }
+    requires { ⌜ Lows limit (now work) made (now lows) ⌝ }
     ensures inside { λ r. ⌜ InRange made r ⌝ }
     ensures chosen { λ r. ⌜ ((d : Sheet) → Fits d → Stored d limit (now (work .entry)) made → Cheapest d limit (now (work .entry)) made r) ⌝ }
 {
-    let from = 512 * limit;
-    let keys = &work[from..from + made];
-    let v = least(keys);
+    let v = least(lows);
     if v == 65535 {
         return Pick::Nothing;
     }
-    let n = first_of(keys, v);
+    let b = first_of(lows, v);
+    let n = first_in(work, limit, 64 * b, block_end(b, made), v);
     Pick::Open {
         n: n,
         cost: wide(v),
+    }
+}
+
+// Closes node n; the least key of its block is computed again.
+pub fn close(work: &mut [u32], limit: usize, made: usize, n: usize, lows: &mut [u32; 64])
+    requires { ⌜ (n < made) × (made ≤ limit) × (limit ≤ 4096) × (512 * limit + 4096 ≤ length (now work)) ⌝ }
+    requires { ⌜ Lows limit (now work) made (now lows) ⌝ }
+    ensures closed { λ _. ⌜ now (work .exit) ≡ withKey limit n closedKey (now (work .entry)) ⌝ }
+    ensures lows { λ _. ⌜ Lows limit (now (work .exit)) made (now (lows .exit)) ⌝ }
+{
+    records::close(work, limit, n);
+    let b = n / 64;
+    lows[b] = least_in(work, limit, 64 * b, block_end(b, made));
+}
+
+// Takes the keys of the new nodes from..made into the least keys of their blocks.
+pub fn enter(work: &[u32], limit: usize, from: usize, made: usize, lows: &mut [u32; 64])
+    requires { ⌜ (from ≤ made) × (made ≤ limit) × (limit ≤ 4096) × (512 * limit + 4096 ≤ length (now work)) ⌝ }
+    requires { ⌜ Lows limit (now work) from (now lows) ⌝ }
+    ensures { λ _. ⌜ Lows limit (now (work .entry)) made (now (lows .exit)) ⌝ }
+{
+    for n in from..made {
+        let at = n / 64;
+        lows[at] = lesser(lows[at], work[512 * limit + n]);
     }
 }
 
