@@ -64,7 +64,8 @@ module _ (d : Sheet) (l : d .limit ≤ 4096) (before after : List ℕ) (made lat
 
   pub front-same : Same d before after made
   front-same =
-      kept-nodes d (d .limit) before after made (h .stored) (front-alike before after (d .limit) made (h .within) l e) (front-keys before after (d .limit) made (h .within) l e)
+      let keys = front-keys before after (d .limit) made (h .within) l e in
+      record { nodes = kept-nodes d (d .limit) before after made (h .stored) (front-alike before after (d .limit) made (h .within) l e) keys; keys = keys }
 
 -- THE SHEET
 good-bound : (d : Sheet) (c : Constraint) → Good d c → boundBy c < d .count
@@ -264,7 +265,7 @@ module _ {s mask work bounds : List ℕ} {made latest n : ℕ} {i : Carrier} {c 
 
     module _ (final : List ℕ) (new : Added (read s) (read s .limit) after final made (childNode (problem (read s)) (nodeAt (read s) after n) c p)) where
       pub made-same : Same (read s) work final made
-      made-same k h = new .nodes k h ∙ path-same k h
+      made-same = record { nodes = λ k h. new .nodes k h ∙ path-same .nodes k h; keys = λ k h. new .keys k h ∙ path-same .keys k h }
 
       made-held : made < read s .limit → (st : State (List ℕ) Constraint) → Held (read s) work made latest st
           → Held (read s) final (made + 1) latest (added (childNode (problem (read s)) (nodeAt (read s) work n) c p ∷ []) st)
@@ -272,7 +273,7 @@ module _ {s mask work bounds : List ℕ} {made latest n : ℕ} {i : Carrier} {c 
           let g = front-held (read s) few work after made latest front st h in
           record {
             stored = new .stored;
-            opened = new .opened ∙ rw (g .opened, path-same n (x .below));
+            opened = new .opened ∙ rw (g .opened, path-same .nodes n (x .below));
             number = omega (arith, h .number);
             slots = slots-kept-records (read s .count) (tableOf (read s)) after final latest (st .rest) (λ k b. new .records k (omega (arith, h .recent))) (g .slots);
             recent = omega (arith, h .recent);

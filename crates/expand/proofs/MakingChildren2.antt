@@ -93,6 +93,17 @@ module _ {d : Sheet} {work after : List ℕ} {made latest k l : ℕ} {r : Grown}
       subst (λ (x : Grown). Grew d after 0 x (makeChild (problem d) (d .limit) 0 (nodeAt d work n) c st)) e (step st 0 (h .1)) in
       ((g .0, g .2), omega (arith, child-more (problem d) (d .limit) 0 (nodeAt d work n) c st (g .0) (g .1), g .2 .number, h .1 .number))
 
+-- no fewer nodes are made, so that those made before a step are as they were after the next one too
+pub fewer-root : {d : Sheet} {work after : List ℕ} {made latest k l : ℕ} {r : Grown} (n : ℕ) → Holding d work made latest → r ≡ Made k l → RootStep d work after made latest n r → Same d work after made → made ≤ k
+fewer-root n h e step same = root-held h e n step .1
+
+pub fewer-child : {s mask work bounds after : List ℕ} {made latest k l n : ℕ} {i : Carrier} {c : Constraint} {r : Grown} → Branch s mask work bounds made latest n i c → r ≡ Made k l
+    → ChildStep (read s) work after made latest n c r → Same (read s) work after made → made ≤ k
+fewer-child {n = n} {c = c} x e step same = child-held (x .held) e n c step .1
+
+pub same-on : {d : Sheet} {work first second : List ℕ} {made k : ℕ} → made ≤ k → Same d work first made → Same d first second k → Same d work second made
+same-on m p q = record { nodes = λ j h. q .nodes j (omega arith) ∙ p .nodes j h; keys = λ j h. q .keys j (omega arith) ∙ p .keys j h }
+
 -- THE CHILDREN: what each is made of, the first after the root, the second after the first
 pub first-branch : {s mask table work bounds after : List ℕ} {made latest k l n : ℕ} {i : Carrier} {c : Constraint} {r : Grown} → Given s mask table work bounds → n < made → Holding (read s) work made latest → Ordered (read s) work n
     → r ≡ Made k l → RootStep (read s) work after made latest n r → Same (read s) work after made → length after ≡ length work → boundBy c ≡ i .0 → Good (read s) c → Branch s mask after bounds k l n i c
@@ -104,7 +115,7 @@ first-branch {n = n} given b h o e step same long bound good =
       room = rw long (given .room);
       held = g .0;
       below = omega (arith, g .1);
-      ordered = rw (same n b) o;
+      ordered = rw (same .nodes n b) o;
       bound = bound;
       good = good;
       bounded = given .bounded;
@@ -120,7 +131,7 @@ second-branch {n = n} {c = c} x e step same long bound good =
       room = rw long (x .room);
       held = g .0;
       below = omega (arith, x .below, g .1);
-      ordered = rw (same n (x .below)) (x .ordered);
+      ordered = rw (same .nodes n (x .below)) (x .ordered);
       bound = bound;
       good = good;
       bounded = x .bounded;
@@ -148,7 +159,7 @@ module _ (d : Sheet) (work first : List ℕ) (made latest n : ℕ) (b : n < made
     grown = subst (λ (g : Grown). Grew d first bound g (makeRoot (problem d) (d .limit) bound (x .root) rest st)) e (root opened rest bound h)
 
     one-child : Grew d second bound q (makeChild (problem d) (d .limit) bound x one (grown .0))
-    one-child = rw (← same n b) (child (grown .0) bound (grown .2))
+    one-child = rw (← same .nodes n b) (child (grown .0) bound (grown .2))
 
     pub spent-second : q ≡ Spent → all ≡ done (spent (d .limit) bound)
     spent-second z =
@@ -161,5 +172,5 @@ module _ (d : Sheet) (work first : List ℕ) (made latest n : ℕ) (b : n < made
         let g : Grew d second bound (Made k2 l2) (makeChild (problem d) (d .limit) bound x one (grown .0)) =
         subst (λ (g : Grown). Grew d second bound g (makeChild (problem d) (d .limit) bound x one (grown .0))) z one-child in
         let two-child : Grew d third bound p (makeChild (problem d) (d .limit) bound x two (g .0)) =
-        subst (λ (y : Node (List ℕ) Constraint). Grew d third bound p (makeChild (problem d) (d .limit) bound y two (g .0))) (again n a ∙ same n b) (last (g .0) bound (g .2)) in
+        subst (λ (y : Node (List ℕ) Constraint). Grew d third bound p (makeChild (problem d) (d .limit) bound y two (g .0))) (again .nodes n a ∙ same .nodes n b) (last (g .0) bound (g .2)) in
         subst (Grew d third bound p) (sym (each-third (problem d) (d .limit) bound x one two rest st (grown .0) (grown .1) (g .0) (g .1))) two-child

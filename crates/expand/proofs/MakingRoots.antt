@@ -62,9 +62,12 @@ pub none-good : (d : Sheet) → T (goodRecords d [])
 unfolding goodRecords
 none-good d = tt
 
--- nodes stay as they were through two steps
+-- nodes stay as they were where nothing is done, and through two steps
+pub same-none : (d : Sheet) (work : List ℕ) (made : ℕ) → Same d work work made
+same-none d work made = record { nodes = λ k h. refl; keys = λ k h. refl }
+
 pub same-then : (d : Sheet) (a b c : List ℕ) (made : ℕ) → Same d a b made → Same d b c made → Same d a c made
-same-then d a b c made p q k h = q k h ∙ p k h
+same-then d a b c made p q = record { nodes = λ k h. q .nodes k h ∙ p .nodes k h; keys = λ k h. q .keys k h ∙ p .keys k h }
 
 -- WHAT A STEP LEAVES of a root that is begun
 module _ {d : Sheet} {work : List ℕ} (mid : List ℕ) {n : ℕ} {a : List ℕ} {i : ℕ} {st : State (List ℕ) Constraint} (l : d .limit ≤ 4096) (front : Front (d .limit) work mid)
@@ -89,7 +92,7 @@ module _ {d : Sheet} {work : List ℕ} (mid : List ℕ) {n : ℕ} {a : List ℕ}
       }
 
   front-same : Same d work mid n
-  front-same = kept-nodes d (d .limit) work mid n (B .stored) front-alikes front-keep
+  front-same = record { nodes = kept-nodes d (d .limit) work mid n (B .stored) front-alikes front-keep; keys = front-keep }
 
 module _ {d : Sheet} {mid after : List ℕ} {n : ℕ} {a : List ℕ} {i : ℕ} {st : State (List ℕ) Constraint} (B : Begun d mid n a i st) (finish : ℕ) (p : List ℕ)
     (u : Wrote mid after n (withPath (fieldsAt mid n) i finish (packOf (d .width) (d .horizon) p))) where
@@ -114,7 +117,7 @@ module _ {d : Sheet} {mid after : List ℕ} {n : ℕ} {a : List ℕ} {i : ℕ} {
       }
 
   path-same : Same d mid after n
-  path-same = kept-nodes d (d .limit) mid after n (B .stored) path-alikes path-keep
+  path-same = record { nodes = kept-nodes d (d .limit) mid after n (B .stored) path-alikes path-keep; keys = path-keep }
 
 -- ONE PATH OF A ROOT
 module _ {s mask table work bounds : List ℕ} {n : ℕ} (i : Carrier) {a : List ℕ} {st : State (List ℕ) Constraint} (g : Given s mask table work bounds) (b : i .0 < countOf s)
@@ -224,8 +227,7 @@ module _ {s mask table work bounds : List ℕ} {n : ℕ} (i : Carrier) {a : List
           path-begun at-mid f p wrote-path (accepted-fits s (g .accepted)) (omega (arith, room-record g n (B .within))) b (has-path .1) (finish-is answer is)
 
       pub root-path-same : Same d work after n
-      root-path-same k h =
-          path-same at-mid f p wrote-path k h ∙ front-same mid (limit-low g) front B k h
+      root-path-same = same-then d work mid after n (front-same mid (limit-low g) front B) (path-same at-mid f p wrote-path)
 
 -- THE ROOT IS OPENED
 pub given-kept : {s mask table work bounds after : List ℕ} → Given s mask table work bounds → length after ≡ length work → Given s mask table after bounds
@@ -251,4 +253,4 @@ module _ {d : Sheet} (fits : Fits d) {work after : List ℕ} {made : ℕ} {a : L
       }
 
   pub root-held-same : Same d work after made
-  root-held-same = root-added .nodes
+  root-held-same = record { nodes = root-added .nodes; keys = root-added .keys }

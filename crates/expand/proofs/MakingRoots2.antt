@@ -144,4 +144,4 @@ module _ {s mask table work bounds : List ℕ} (g : Given s mask table work boun
           )
 
       pub next-same : Same (read s) work mid made
-      next-same = begun-nodes (read s) (read s .limit) work mid made tasks (H .stored) less B
+      next-same = record { nodes = begun-nodes (read s) (read s .limit) work mid made tasks (H .stored) less B; keys = λ k h. B .keys (read s .limit) k less }

@@ -59,9 +59,10 @@ pub record Begun (d : Sheet) (work : List ℕ) (made : ℕ) (a : List ℕ) (i : 
   pub unbarred : Unbarred (d .count) (tableOf d) a
   pub root : RootSoFar d work made a i
 
--- nodes with a number below `made` are as they were
-abbrev pub Same : Sheet → List ℕ → List ℕ → ℕ → Type 0
-Same d before after made = (k : ℕ) → k < made → nodeAt d after k ≡ nodeAt d before k
+-- nodes with a number below `made` are as they were, and so are their keys
+pub record Same (d : Sheet) (before after : List ℕ) (made : ℕ) : Type 0 where
+  pub nodes : (k : ℕ) → k < made → nodeAt d after k ≡ nodeAt d before k
+  pub keys : (k : ℕ) → k < made → keyAt (d .limit) after k ≡ keyAt (d .limit) before k
 
 -- what a step comes to is the turn t: the state is held that the definition has then; or the search is spent
 abbrev pub Grew : Sheet → List ℕ → ℕ → Grown → Turn (List ℕ) Constraint → Type 0

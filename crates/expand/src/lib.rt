@@ -253,6 +253,7 @@ pub fn expand(
     requires { ⌜ Given (now s) (now mask) (now t) (now work) (now bounds) × (n < made) × (length (now list) ≡ 20480) × Holding (read (now s)) (now work) made latest ⌝ }
     requires { ⌜ Ordered (read (now s)) (now work) n × (boundBy (first .constraint) ≡ first .carrier .0) × Good (read (now s)) (first .constraint) × (boundBy (second .constraint) ≡ second .carrier .0) × Good (read (now s)) (second .constraint) ⌝ }
     ensures grew { λ r. ⌜ ((opened : Nodes) (rest : List (List ℕ)) (bound : ℕ) → Held (read (now (s .entry))) (now (work .entry)) made latest (record { opened = opened; made = made; rest = rest }) → Grew (read (now (s .entry))) (now (work .exit)) bound r (makeEach (problem (read (now (s .entry)))) (read (now (s .entry)) .limit) bound (nodeAt (read (now (s .entry))) (now (work .entry)) n) (first .constraint, second .constraint) rest (record { opened = opened; made = made; rest = restAfter (problem (read (now (s .entry)))) (nodeAt (read (now (s .entry))) (now (work .entry)) n .root) rest }))) ⌝ }
+    ensures same { λ _. ⌜ Same (read (now (s .entry))) (now (work .entry)) (now (work .exit)) made ⌝ }
 {
     let Grown::Made { made: k, latest: l } = next_root(
         s,

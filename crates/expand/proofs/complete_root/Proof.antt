@@ -11,7 +11,7 @@ use Rattle.deck.specs.Search.{State}
 use Rattle.deck.specs.declared.Constraint.{Constraint}
 use Rattle.nodes.proofs.Readers.{accepted-fits}
 use Rattle.expand.specs.Held.{Begun, Same}
-use Rattle.expand.proofs.MakingRoots.{room-keys, limit-low, given-kept, same-then, root-held, root-held-same}
+use Rattle.expand.proofs.MakingRoots.{room-keys, limit-low, given-kept, same-none, same-then, root-held, root-held-same}
 use Rattle.expand.proofs.complete_root.Statement.{statement}
 use Rattle.expand.proofs.complete_root.Tie as tie
 
@@ -27,7 +27,7 @@ byte-at-requires : tie.Need-byte-at-requires Inv-loop μ-loop
 byte-at-requires c κs = search needs
 
 loop-holds : tie.Need-loop-holds Inv-loop μ-loop
-loop-holds c = (omega arith, refl, λ k h. refl, λ a st b. b)
+loop-holds c = (omega arith, refl, same-none _ _ _, λ a st b. b)
 
 root-path-requires : tie.Need-root-path-requires Inv-loop μ-loop
 root-path-requires c κs =

@@ -1,9 +1,10 @@
 -- `expand` meets its contract: the next root, the first child, the second child. Assumes nothing.
 use mathlib.Core.Path.{_∙_}
+use native.Mathlib.Omega.{arith}
 use denote.Ref.{now}
 use borrow.Author.Needs.{needs}
 use Rattle.deck.specs.Sheet.{read}
-use Rattle.expand.proofs.MakingChildren2.{first-branch, second-branch, spent-first, spent-second, made-third}
+use Rattle.expand.proofs.MakingChildren2.{first-branch, second-branch, fewer-root, fewer-child, same-on, spent-first, spent-second, made-third}
 use Rattle.expand.proofs.expand.Statement.{statement}
 use Rattle.expand.proofs.expand.Tie as tie
 
@@ -24,8 +25,11 @@ returns c =
     let pre = c .before .before .before .before .before .before .before .before .before .before .before .pre in
     let a = c .before .before .before .before .before .before .before .before .before .before .before .args in
     let root = c .before .before .before .before .next-root in
-    λ opened rest bound h.
-    spent-first (read (now (a .s))) (now (a .work)) _ (a .made) (a .latest) (a .n) (pre .0 .1) (a .first .constraint) (a .second .constraint) (root .result) (root .ensures .0) opened rest bound h (c .enum-told .given .1)
+    (
+      λ opened rest bound h.
+          spent-first (read (now (a .s))) (now (a .work)) _ (a .made) (a .latest) (a .n) (pre .0 .1) (a .first .constraint) (a .second .constraint) (root .result) (root .ensures .0) opened rest bound h (c .enum-told .given .1),
+      root .ensures .1,
+    )
 
 make-child-requires : tie.Need-make-child-requires
 make-child-requires c κs =
@@ -54,9 +58,12 @@ returns-2 c =
     let a = c .before .before .before .before .before .before .before .before .before .before .before .before .before .before .before .before .before .before .before .before .before .before .args in
     let root = c .before .before .before .before .before .before .before .before .before .before .before .before .before .before .before .next-root in
     let one = c .before .before .before .before .before .before .make-child in
-    λ opened rest bound h.
-    spent-second (read (now (a .s))) (now (a .work)) _ (a .made) (a .latest) (a .n) (pre .0 .1) (a .first .constraint) (a .second .constraint) (root .result) (root .ensures .0) opened rest bound h _ _
-    (c .before .before .before .before .before .before .before .before .before .before .before .k .given .1) (root .ensures .1) _ (one .result) (one .ensures .0) (c .enum-told2 .given .1)
+    let e = c .before .before .before .before .before .before .before .before .before .before .before .k .given .1 in (
+      λ opened rest bound h.
+          spent-second (read (now (a .s))) (now (a .work)) _ (a .made) (a .latest) (a .n) (pre .0 .1) (a .first .constraint) (a .second .constraint) (root .result) (root .ensures .0) opened rest bound h _ _
+          e (root .ensures .1) _ (one .result) (one .ensures .0) (c .enum-told2 .given .1),
+      same-on (fewer-root (a .n) (pre .0 .3) e (root .ensures .0) (root .ensures .1)) (root .ensures .1) (one .ensures .1),
+    )
 
 make-child-requires-2 : tie.Need-make-child-requires-2
 make-child-requires-2 c κs =
@@ -81,9 +88,16 @@ returns-3 c =
     let root = c .before .before .before .before .before .before .before .before .before .before .before .before .before .before .before .before .before .before .before .before .before .before .before .before .next-root in
     let one = c .before .before .before .before .before .before .before .before .before .before .before .before .before .before .before .make-child in
     let two = c .before .before .before .before .make-child2 in
-    λ opened rest bound h.
-    made-third (read (now (a .s))) (now (a .work)) _ (a .made) (a .latest) (a .n) (pre .0 .1) (a .first .constraint) (a .second .constraint) (root .result) (root .ensures .0) opened rest bound h _ _
-    (c .before .before .before .before .before .before .before .before .before .before .before .before .before .before .before .before .before .before .before .before .k .given .1) (root .ensures .1) _ (one .result) (one .ensures .0) _ _ (c .before .before .before .before .before .before .before .before .before .k2 .given .1) (one .ensures .1) _ (two .result) (two .ensures .0)
+    let e = c .before .before .before .before .before .before .before .before .before .before .before .before .before .before .before .before .before .before .before .before .k .given .1 in
+    let e2 = c .before .before .before .before .before .before .before .before .before .k2 .given .1 in
+    let x = first-branch (pre .0 .0) (pre .0 .1) (pre .0 .3) (pre .1 .0) e (root .ensures .0) (root .ensures .1) (root .kept .1 .1 .1 .0) (pre .1 .1) (pre .1 .2) in
+    let k = fewer-root (a .n) (pre .0 .3) e (root .ensures .0) (root .ensures .1) in
+    let k2 = fewer-child x e2 (one .ensures .0) (one .ensures .1) in (
+      λ opened rest bound h.
+          made-third (read (now (a .s))) (now (a .work)) _ (a .made) (a .latest) (a .n) (pre .0 .1) (a .first .constraint) (a .second .constraint) (root .result) (root .ensures .0) opened rest bound h _ _
+          e (root .ensures .1) _ (one .result) (one .ensures .0) _ _ e2 (one .ensures .1) _ (two .result) (two .ensures .0),
+      same-on (omega (arith, k, k2)) (same-on k (root .ensures .1) (one .ensures .1)) (two .ensures .1),
+    )
 
 pub expand-spec : {M : Type 1} → statement M
 expand-spec =

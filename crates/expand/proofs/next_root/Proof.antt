@@ -8,7 +8,7 @@ use Rattle.deck.specs.Sheet.{read}
 use Rattle.nodes.specs.Nodes.{nodeAt}
 use Rattle.roots.specs.Slots.{slotsAt}
 use Rattle.roots.specs.Choices.{ChosenOf}
-use Rattle.expand.proofs.MakingRoots.{room-record, limit-low, given-kept, same-then}
+use Rattle.expand.proofs.MakingRoots.{room-record, limit-low, given-kept, same-none, same-then}
 use Rattle.expand.proofs.MakingRoots2.{heldState, no-root, none-remain, none-more, one-more, is-no-root, is-root, latest-room, few-carriers, slots-asked, slots-fall, without-slot, with-slot, next-begun, next-same}
 use Rattle.expand.proofs.next_root.Statement.{statement}
 use Rattle.expand.proofs.next_root.Tie as tie
@@ -27,7 +27,7 @@ returns c =
       λ opened rest bound h.
           no-root (read (u .s .now)) (u .work .now) (u .made) (u .latest) bound (nodeAt (read (u .s .now)) (u .work .now) (u .n) .root) opened rest
           (is-no-root (read (u .s .now)) (u .work .now) (u .n) (c .before .is-root .result) (c .before .is-root .ensures) (c .if1 .taken)) h,
-      λ k h. refl,
+      same-none _ _ _,
     )
 
 byte-at-requires : tie.Need-byte-at-requires
@@ -56,7 +56,7 @@ returns-2 c =
           none-remain (read (u .s .now)) (u .work .now) (u .made) (u .latest) bound (nodeAt (read (u .s .now)) (u .work .now) (u .n) .root) opened rest
           (is-root (read (u .s .now)) (u .work .now) (u .n) (c .before .before .before .before .before .before .is-root .result) (c .before .before .before .before .before .before .is-root .ensures) (c .before .before .before .before .before .if1 .left))
           (without-slot (q .0) h (c .before .before .before .before .byte-at .ensures .0) (c .before .before .next-slot .result) (c .before .before .next-slot .ensures) (c .enum-told .given .1)) h,
-      λ k h. refl,
+      same-none _ _ _,
     )
 
 word-at-requires : tie.Need-word-at-requires
@@ -74,7 +74,7 @@ returns-3 c =
           none-more (read (u .s .now)) (u .work .now) (u .made) (u .latest) bound (nodeAt (read (u .s .now)) (u .work .now) (u .n) .root) opened rest (l .0) (l .1)
           (is-root (read (u .s .now)) (u .work .now) (u .n) (c .before .before .before .before .before .before .before .before .before .is-root .result) (c .before .before .before .before .before .before .before .before .before .is-root .ensures) (c .before .before .before .before .before .before .before .before .if1 .left)) (l .2)
           (omega (arith, c .before .word-at .ensures .0, c .if2 .taken)),
-      λ k h. refl,
+      same-none _ _ _,
     )
 
 next-root-requires : tie.Need-next-root-requires
