@@ -1,13 +1,16 @@
 -- The turns on the workspace come to the search's answer: at the start of each turn the state that is held leads to it. Assumes
 -- nothing.
-use Prim.Native.Nat.{ℕ, suc, _+_, _-_, _<_}
+use Prim.Native.Nat.{ℕ, suc, _+_, _-_, _<_, _≤_}
 use mathlib.Core.Path.{_≡_, sym, ap, subst, _∙_}
 use mathlib.Core.List.{List, [], _∷_}
-use mathlib.Core.Option.{none, some}
+use mathlib.Core.Bool.{Bool, true, false}
+use mathlib.Core.Option.{Option, none, some}
 use native.Mathlib.Numerals.{add-one}
 use native.Mathlib.Omega.{arith}
+use lib.ListN.{length}
+use lib.Dec.{leb}
 use Rattle.deck.specs.Sheet.{read, cause}
-use Rattle.deck.specs.Search.{Answer, Turn, done, noPlan, spent, rootOf, cheapest, turn, onward, run, searchFrom, searched}
+use Rattle.deck.specs.Search.{Problem, Node, Selected, Answer, Turn, done, more, noPlan, spent, rootOf, toMake, cheapest, extend, expand, turnWith, turn, onward, run, searchFrom, searched}
 use Rattle.deck.specs.Planner.{problem, planFor}
 use Rattle.deck.specs.declared.Constraint.{Constraint}
 use Rattle.meaning.proofs.Fuel.{plan-answers}
@@ -26,6 +29,27 @@ pub record Going (s work : List ℕ) (made latest k : ℕ) : Type 0 where
   pub state : St
   pub turning : Turning (read s) work made latest k state
   pub comes : (f : ℕ) → f + k ≡ suc (read s .limit) → run (problem (read s)) (read s .limit) cheapest f state ≡ some (planFor (read s))
+
+-- no fewer nodes are made after a turn
+module _ (w : Problem (List ℕ) Constraint) (limit : ℕ) where
+  abbrev NoFewer : ℕ → Turn (List ℕ) Constraint → Type 0
+  NoFewer made (done a) = Unit {0}
+  NoFewer made (more st) = made ≤ st .made
+
+  extended : (st : St) (k : Selected (List ℕ) Constraint) (new : List (Node (List ℕ) Constraint)) (b : Bool) → NoFewer (st .made) (extend w limit cheapest st k new b)
+  extended st k new true = omega arith
+  extended st k new false = tt
+
+  expanded : (st : St) (k : Selected (List ℕ) Constraint) (o : Option (Constraint × Constraint)) → NoFewer (st .made) (expand w limit cheapest st k o)
+  expanded st k none = tt
+  expanded st k (some c) = extended st k (toMake w (k .node) c (st .rest)) (leb (st .made + length (toMake w (k .node) c (st .rest))) limit)
+
+  turned-with : (st : St) (o : Option (Selected (List ℕ) Constraint)) → NoFewer (st .made) (turnWith w limit cheapest st o)
+  turned-with st none = tt
+  turned-with st (some k) = expanded st k (w .collision (k .node .paths))
+
+  no-fewer : (st next : St) → turn w limit cheapest st ≡ more next → st .made ≤ next .made
+  no-fewer st next e = subst (NoFewer (st .made)) e (turned-with st (cheapest (st .opened)))
 
 module _ (s : List ℕ) (ok : cause s ≡ 0) where
   -- the first root
@@ -75,6 +99,11 @@ module _ (s : List ℕ) (ok : cause s ≡ 0) where
           );
           comes = λ f z. sym (ap (onward (problem (read s)) (read s .limit) cheapest (run (problem (read s)) (read s .limit) cheapest f)) (t .1)) ∙ comes-next f z;
         })
+
+    pub more-fewer : (m l : ℕ) → r ≡ More m l → made ≤ m
+    more-fewer m l e =
+        let t = turned (More m l) e in
+        omega (arith, no-fewer (problem (read s)) (read s .limit) (going .state) (t .0) (t .1), going .turning .0 .number, t .2 .number)
 
     pub going-plan : (n cost : ℕ) → r ≡ Plan n cost → PlanAt (read s) after made n cost (planFor (read s))
     going-plan n cost e =

@@ -28,7 +28,7 @@ use Rattle.optimal.proofs.Select.{cheapest-picks}
 use Rattle.optimal.proofs.Written.{pieces-flat}
 use Rattle.pack.proofs.Trips.{length-unpack}
 use Rattle.records.specs.Record.{fieldsAt, packedIn, closedKey, withKey}
-use Rattle.nodes.specs.Nodes.{pathIn, pathsIn, nodeAt, openedAt, Cheapest}
+use Rattle.nodes.specs.Nodes.{pathIn, pathsIn, nodeAt, openedAt, Lows, Cheapest}
 use Rattle.nodes.specs.Stored.{Fits, Good, Stored}
 use Rattle.nodes.specs.declared.Pick.{Pick}
 use Rattle.nodes.specs.declared.Pick.the-variants.{Nothing, Open}
@@ -203,6 +203,10 @@ module _ (s : List ℕ) (ok : cause s ≡ 0) where
 -- a workspace as long as another has room too
 pub given-kept : (s mask t work bounds after : List ℕ) → Given s mask t work bounds → length after ≡ length work → Given s mask t after bounds
 given-kept s mask t work bounds after g e = record { accepted = g .accepted; masked = g .masked; table-is = g .table-is; room = rw e (g .room); bounded = g .bounded }
+
+-- the least keys of the blocks, by the node limit as it is read
+pub lows-limit : {limit made : ℕ} {work lows : List ℕ} (n : ℕ) → limit ≡ n → Lows limit work made lows → Lows n work made lows
+lows-limit {limit} {made} {work} {lows} n e w = subst (λ x. Lows x work made lows) e w
 
 -- WHAT THE CALLS OF A TURN SAY: node n is the one that is taken, and `closed` is the workspace once it is closed
 pub record Took (s work closed : List ℕ) (made n cost : ℕ) : Type 0 where

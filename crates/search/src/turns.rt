@@ -17,9 +17,9 @@ ghost use Rattle.deck.specs.Collisions.{firstCollision};
 ghost use Rattle.deck.specs.Calls.{collisionFound};
 ghost use Rattle.deck.specs.declared.Constraint.{Constraint};
 ghost use Rattle.meaning.proofs.Limit.{makeEach};
-ghost use Rattle.nodes.specs.Nodes.{nodeAt};
+ghost use Rattle.nodes.specs.Nodes.{nodeAt, Lows};
 ghost use Rattle.nodes.specs.Stored.{Good};
-ghost use Rattle.expand.specs.Held.{Given, Held, Holding, Ordered, Nodes};
+ghost use Rattle.expand.specs.Held.{Given, Held, Holding, Ordered, Nodes, Same};
 ghost use Rattle.search.specs.Turns.{StartsOf, Turning, TurnedTo, EndedWith};
 
 // What a turn comes to: more nodes, the node that is the plan, no open node, or a node was to be made and none is left.
@@ -109,7 +109,8 @@ fn expanded(
 ) -> Turned
     requires { ⌜ Given (now s) (now mask) (now t) (now work) (now bounds) × (n < made) × (length (now list) ≡ 20480) × Holding (read (now s)) (now work) made latest ⌝ }
     requires { ⌜ Ordered (read (now s)) (now work) n × Good (read (now s)) (sides c .0) × Good (read (now s)) (sides c .1) ⌝ }
-    ensures { λ r. ⌜ ((opened : Nodes) (rest : List (List ℕ)) → Held (read (now (s .entry))) (now (work .entry)) made latest (record { opened = opened; made = made; rest = rest }) → TurnedTo (read (now (s .entry))) (now (work .exit)) made r (makeEach (problem (read (now (s .entry)))) (read (now (s .entry)) .limit) cost (nodeAt (read (now (s .entry))) (now (work .entry)) n) (sides c) rest (record { opened = opened; made = made; rest = restAfter (problem (read (now (s .entry)))) (nodeAt (read (now (s .entry))) (now (work .entry)) n .root) rest }))) ⌝ }
+    ensures turned { λ r. ⌜ ((opened : Nodes) (rest : List (List ℕ)) → Held (read (now (s .entry))) (now (work .entry)) made latest (record { opened = opened; made = made; rest = rest }) → TurnedTo (read (now (s .entry))) (now (work .exit)) made r (makeEach (problem (read (now (s .entry)))) (read (now (s .entry)) .limit) cost (nodeAt (read (now (s .entry))) (now (work .entry)) n) (sides c) rest (record { opened = opened; made = made; rest = restAfter (problem (read (now (s .entry)))) (nodeAt (read (now (s .entry))) (now (work .entry)) n .root) rest }))) ⌝ }
+    ensures same { λ _. ⌜ Same (read (now (s .entry))) (now (work .entry)) (now (work .exit)) made ⌝ }
 {
     let first = first_side(c);
     let second = second_side(c);
@@ -133,7 +134,8 @@ fn expanded(
     }
 }
 
-// One turn: the cheapest open node is taken. Without a collision it is the plan; otherwise it is expanded.
+// One turn: the cheapest open node is taken. Without a collision it is the plan; otherwise it is expanded. The least keys of the
+// blocks are then those of the nodes that were made before.
 fn turn(
     s: &[u8],
     mask: &[u8; 1156],
@@ -145,16 +147,18 @@ fn turn(
     made: usize,
     latest: usize,
     bounds: &[u8],
+    lows: &mut [u32; 64],
 ) -> Turned
-    requires { ⌜ Given (now s) (now mask) (now t) (now work) (now bounds) × StartsOf (read (now s)) (now starts) × (length (now list) ≡ 20480) ⌝ }
+    requires { ⌜ Given (now s) (now mask) (now t) (now work) (now bounds) × StartsOf (read (now s)) (now starts) × (length (now list) ≡ 20480) × Lows (read (now s) .limit) (now work) made (now lows) ⌝ }
     requires { ⌜ ((st : State (List ℕ) Constraint) × (k : ℕ) × Turning (read (now s)) (now work) made latest k st) ⌝ }
-    ensures { λ r. ⌜ ((st : State (List ℕ) Constraint) (k : ℕ) → Turning (read (now (s .entry))) (now (work .entry)) made latest k st → TurnedTo (read (now (s .entry))) (now (work .exit)) made r (turn (problem (read (now (s .entry)))) (read (now (s .entry)) .limit) cheapest st)) ⌝ }
+    ensures turned { λ r. ⌜ ((st : State (List ℕ) Constraint) (k : ℕ) → Turning (read (now (s .entry))) (now (work .entry)) made latest k st → TurnedTo (read (now (s .entry))) (now (work .exit)) made r (turn (problem (read (now (s .entry)))) (read (now (s .entry)) .limit) cheapest st)) ⌝ }
+    ensures lows { λ _. ⌜ Lows (read (now (s .entry)) .limit) (now (work .exit)) made (now (lows .exit)) ⌝ }
 {
     let limit = sheet::word_at(s, 4);
-    let Pick::Open { n, cost } = nodes::cheapest(work, limit, made) else {
+    let Pick::Open { n, cost } = nodes::cheapest(work, limit, made, lows) else {
         return Turned::NoPlan;
     };
-    records::close(work, limit, n);
+    nodes::close(work, limit, made, n, lows);
     let CollisionAnswer::Found(c) = collision_of(s, starts, work, n) else {
         return Turned::Plan { n, cost };
     };
@@ -190,6 +194,8 @@ pub fn run(
 {
     let limit = sheet::word_at(s, 4);
     let mut list = [0u16; 20480];
+    let mut lows = [65535u32; 64];
+    nodes::enter(work, limit, 0, 1, &mut lows);
     let mut made = 1;
     let mut latest = 1;
     for _ in 0..limit + 1 {
@@ -204,8 +210,10 @@ pub fn run(
             made,
             latest,
             bounds,
+            &mut lows,
         ) {
             Turned::More { made: k, latest: l } => {
+                nodes::enter(work, limit, made, k, &mut lows);
                 made = k;
                 latest = l;
             }

@@ -24,8 +24,7 @@ returns : tie.Need-returns
 returns c =
     let pre = c .before .before .before .before .before .before .before .before .before .before .before .pre in
     let a = c .before .before .before .before .before .before .before .before .before .before .before .args in
-    let root = c .before .before .before .before .next-root in
-    (
+    let root = c .before .before .before .before .next-root in (
       λ opened rest bound h.
           spent-first (read (now (a .s))) (now (a .work)) _ (a .made) (a .latest) (a .n) (pre .0 .1) (a .first .constraint) (a .second .constraint) (root .result) (root .ensures .0) opened rest bound h (c .enum-told .given .1),
       root .ensures .1,

@@ -33,13 +33,16 @@ same-length-2 : tie.Need-same-length-2
 same-length-2 c = search needs
 
 returns : tie.Need-returns
-returns c opened rest held =
+returns c =
     let start = c .before .before .before .before .before .before .before .before .before .before .before .before .before .before .before .before .before in
     let first = c .before .before .before .before .before .before .before .before .before .before .before .before .first-side in
     let second = c .before .before .before .before .before .before .before .before .before .before .before .second-side in
-    let expand = c .before .before .before .before .before .before .before .expand in
-    grew-more (read (start .args .s .now)) (start .args .work .now) _ (start .args .made) (start .args .cost) (start .args .n) opened rest (start .args .c)
-    _ _ (first .ensures .0) (second .ensures .0) _ (expand .ensures opened rest (start .args .cost) held) _ _ (c .before .grown .given .1)
+    let expand = c .before .before .before .before .before .before .before .expand in (
+      λ opened rest held.
+          grew-more (read (start .args .s .now)) (start .args .work .now) _ (start .args .made) (start .args .cost) (start .args .n) opened rest (start .args .c)
+          _ _ (first .ensures .0) (second .ensures .0) _ (expand .ensures .0 opened rest (start .args .cost) held) _ _ (c .before .grown .given .1),
+      expand .ensures .1,
+    )
 
 same-length-3 : tie.Need-same-length-3
 same-length-3 c = search needs
@@ -48,13 +51,16 @@ same-length-4 : tie.Need-same-length-4
 same-length-4 c = search needs
 
 returns-2 : tie.Need-returns-2
-returns-2 c opened rest held =
+returns-2 c =
     let start = c .before .before .before .before .before .before .before .before .before .before .before .before .before .before .before .before in
     let first = c .before .before .before .before .before .before .before .before .before .before .before .first-side in
     let second = c .before .before .before .before .before .before .before .before .before .before .second-side in
-    let expand = c .before .before .before .before .before .before .expand in
-    grew-spent (read (start .args .s .now)) (start .args .work .now) _ (start .args .made) (start .args .cost) (start .args .n) opened rest (start .args .c)
-    _ _ (first .ensures .0) (second .ensures .0) _ (expand .ensures opened rest (start .args .cost) held) (c .enum-told .given .1)
+    let expand = c .before .before .before .before .before .before .expand in (
+      λ opened rest held.
+          grew-spent (read (start .args .s .now)) (start .args .work .now) _ (start .args .made) (start .args .cost) (start .args .n) opened rest (start .args .c)
+          _ _ (first .ensures .0) (second .ensures .0) _ (expand .ensures .0 opened rest (start .args .cost) held) (c .enum-told .given .1),
+      expand .ensures .1,
+    )
 
 pub expanded-spec : {M : Type 1} → statement M
 expanded-spec =
