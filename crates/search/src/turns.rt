@@ -79,17 +79,22 @@ fn second_side(c: Collision) -> Child
     }
 }
 
-// The first collision of the paths of node n.
-fn collision_of(s: &[u8], starts: &[u16; 12], work: &[u32], n: usize) -> CollisionAnswer
+// The first collision of the paths of node n, which are written over the first words of `paths`.
+fn collision_of(
+    s: &[u8],
+    starts: &[u16; 12],
+    work: &[u32],
+    n: usize,
+    paths: &mut [u16; 3072],
+) -> CollisionAnswer
     requires { ⌜ (cause (now s) ≡ 0) × StartsOf (read (now s)) (now starts) × (512 * n + 512 ≤ length (now work)) ⌝ }
     ensures { λ r. ⌜ r ≡ collisionFound (firstCollision (countOf (now (s .entry))) (read (now (s .entry)) .horizon) (nodeAt (read (now (s .entry))) (now (work .entry)) n .paths)) ⌝ }
 {
     let w = sheet::byte_at(s, 0);
     let m = sheet::byte_at(s, 2);
     let last = sheet::byte_at(s, 3);
-    let mut paths = [0u16; 3072];
-    nodes::write_paths(work, n, starts, w, last, m, &mut paths);
-    collision::first_among(m, last, &paths)
+    nodes::write_paths(work, n, starts, w, last, m, paths);
+    collision::first_among(m, last, paths)
 }
 
 // Expands node n, which costs `cost`, by the collision c.
@@ -148,6 +153,7 @@ fn turn(
     latest: usize,
     bounds: &[u8],
     lows: &mut [u32; 64],
+    paths: &mut [u16; 3072],
 ) -> Turned
     requires { ⌜ Given (now s) (now mask) (now t) (now work) (now bounds) × StartsOf (read (now s)) (now starts) × (length (now list) ≡ 20480) × Lows (read (now s) .limit) (now work) made (now lows) ⌝ }
     requires { ⌜ ((st : State (List ℕ) Constraint) × (k : ℕ) × Turning (read (now s)) (now work) made latest k st) ⌝ }
@@ -159,7 +165,7 @@ fn turn(
         return Turned::NoPlan;
     };
     nodes::close(work, limit, made, n, lows);
-    let CollisionAnswer::Found(c) = collision_of(s, starts, work, n) else {
+    let CollisionAnswer::Found(c) = collision_of(s, starts, work, n, paths) else {
         return Turned::Plan { n, cost };
     };
     expanded(
@@ -194,6 +200,7 @@ pub fn run(
 {
     let limit = sheet::word_at(s, 4);
     let mut list = [0u16; 20480];
+    let mut paths = [0u16; 3072];
     let mut lows = [65535u32; 64];
     nodes::enter(work, limit, 0, 1, &mut lows);
     let mut made = 1;
@@ -211,6 +218,7 @@ pub fn run(
             latest,
             bounds,
             &mut lows,
+            &mut paths,
         ) {
             Turned::More { made: k, latest: l } => {
                 nodes::enter(work, limit, made, k, &mut lows);

@@ -19,9 +19,6 @@ byte-at-requires-2 c κs = search needs
 byte-at-requires-3 : tie.Need-byte-at-requires-3
 byte-at-requires-3 c κs = search needs
 
-slice-aggregate-write-paths : tie.Need-slice-aggregate-write-paths
-slice-aggregate-write-paths c = search needs
-
 -- the words of all paths fit the array
 words-fit : (m last : ℕ) → m ≤ 12 → last ≤ 255 → m * (last + 1) ≤ 3072
 words-fit m last a b = let l : last + 1 ≤ 256 = omega arith in omega (arith, mul-le-mul a l)
@@ -38,11 +35,8 @@ write-paths-requires c κs =
       omega (arith, m, count-range s ok),
       omega (arith, c .before .before .before .before .byte-at .ensures .0, width-range s ok),
       omega (arith, last, horizon-range s ok),
-      words-fit _ _ (omega (arith, m, count-range s ok)) (omega (arith, last, horizon-range s ok)),
+      rw (c .write-paths-arg2 .given .0 .1) (words-fit _ _ (omega (arith, m, count-range s ok)) (omega (arith, last, horizon-range s ok))),
     )
-
-slice-aggregate-first-among : tie.Need-slice-aggregate-first-among
-slice-aggregate-first-among c = search needs
 
 first-among-requires : tie.Need-first-among-requires
 first-among-requires c κs =
@@ -51,7 +45,7 @@ first-among-requires c κs =
     let s = start .args .s .now in
     let m : c .before .before .before .before .before .before .byte-at2 .result ≤ 12 = omega (arith, c .before .before .before .before .before .before .byte-at2 .ensures .0, count-range s ok) in
     let last : c .before .before .before .before .before .byte-at3 .result ≤ 255 = omega (arith, c .before .before .before .before .before .byte-at3 .ensures .0, horizon-range s ok) in
-    (rw (c .before .before .write-paths .kept .1 .1 .1 .1 .1 .1 .0, ← add-one (c .before .before .before .before .before .byte-at3 .result)) (words-fit _ _ m last), omega arith)
+    (rw (c .before .before .write-paths .kept .1 .1 .1 .1 .1 .1 .0, c .before .before .before .write-paths-arg2 .given .0 .1, ← add-one (c .before .before .before .before .before .byte-at3 .result)) (words-fit _ _ m last), omega arith)
 
 returns : tie.Need-returns
 returns c =
@@ -69,8 +63,6 @@ collision-of-spec =
     byte-at-requires
     byte-at-requires-2
     byte-at-requires-3
-    slice-aggregate-write-paths
     write-paths-requires
-    slice-aggregate-first-among
     first-among-requires
     returns)

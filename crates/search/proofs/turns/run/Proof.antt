@@ -14,11 +14,11 @@ use Rattle.search.proofs.turns.run.Statement.{statement}
 use Rattle.search.proofs.turns.run.Tie as tie
 
 abbrev Inv-loop : tie.InvT-loop
-Inv-loop s mask starts t work₀ spare₀ bounds limit list₀ lows₀ made₀ latest₀ counter₀ end work spare list lows made latest counter =
+Inv-loop s mask starts t work₀ spare₀ bounds limit list₀ paths₀ lows₀ made₀ latest₀ counter₀ end work spare list paths lows made latest counter =
     (length work ≡ length work₀) × (length list ≡ 20480) × (counter ≤ end) × Going s work made latest counter × Lows (read s .limit) work made lows
 
 abbrev μ-loop : tie.MeasureT-loop
-μ-loop s mask starts t work₀ spare₀ bounds limit list₀ lows₀ made₀ latest₀ counter₀ end work spare list lows made latest counter = end - counter
+μ-loop s mask starts t work₀ spare₀ bounds limit list₀ paths₀ lows₀ made₀ latest₀ counter₀ end work spare list paths lows made latest counter = end - counter
 
 -- a turn is left
 left : (c : tie.In-loop Inv-loop μ-loop) → c .before .loop .counter < suc (read (c .before .before .before .before .before .before .before .before .before .args .s .now) .limit)
@@ -49,11 +49,11 @@ slice-aggregate-turn c = search needs
 
 turn-requires : tie.Need-turn-requires Inv-loop μ-loop
 turn-requires c κs =
-    let s = c .before .before .before .before .before .before .before .before .before .before .before .before .before in
-    let inv = c .before .before .before .before .before .loop .inv in
+    let s = c .before .before .before .before .before .before .before .before .before .before .before .before .before .before in
+    let inv = c .before .before .before .before .before .before .loop .inv in
     let going = inv .3 in (
       (given-kept (s .args .s .now) (s .args .mask .now) (s .args .t .now) (s .args .work .now) (s .args .bounds .now) _ (s .pre .0 .0) (inv .0), s .pre .0 .1, inv .1, inv .4),
-      (going .state, c .before .before .before .before .before .loop .counter, going .turning),
+      (going .state, c .before .before .before .before .before .before .loop .counter, going .turning),
     )
 
 enum-known-k : tie.Need-enum-known-k Inv-loop μ-loop
@@ -61,14 +61,14 @@ enum-known-k c = search needs
 
 enter-requires-2 : tie.Need-enter-requires-2 Inv-loop μ-loop
 enter-requires-2 c κs =
-    let s = c .before .before .before .before .before .before .before .before .before .before .before .before .before .before .before .before .before .before .before .before .before .before in
+    let s = c .before .before .before .before .before .before .before .before .before .before .before .before .before .before .before .before .before .before .before .before .before .before .before in
     let ok = s .pre .0 .0 .accepted in
-    let limit = c .before .before .before .before .before .before .before .before .before .before .before .before .before .before .before .before .before .before .word-at .ensures .0 in
-    let loop = c .before .before .before .before .before .before .before .before .before .before .before .before .before .before .loop in
+    let limit = c .before .before .before .before .before .before .before .before .before .before .before .before .before .before .before .before .before .before .before .word-at .ensures .0 in
+    let loop = c .before .before .before .before .before .before .before .before .before .before .before .before .before .before .before .loop in
     let turn = c .before .before .before .before .before .before .before .before .turn in
-    let next = going-more (s .args .s .now) (s .pre .0 .0 .accepted) (loop .work) (loop .made) (loop .latest) (loop .counter) (loop .inv .3) (left (c .before .before .before .before .before .before .before .before .before .before .before .before .before)) _ (turn .result) (turn .ensures .0) _ _ (c .before .before .before .k .given .1) in (
+    let next = going-more (s .args .s .now) (s .pre .0 .0 .accepted) (loop .work) (loop .made) (loop .latest) (loop .counter) (loop .inv .3) (left (c .before .before .before .before .before .before .before .before .before .before .before .before .before .before)) _ (turn .result) (turn .ensures .0) _ _ (c .before .before .before .k .given .1) in (
       (
-        more-fewer (s .args .s .now) (s .pre .0 .0 .accepted) (loop .work) (loop .made) (loop .latest) (loop .counter) (loop .inv .3) (left (c .before .before .before .before .before .before .before .before .before .before .before .before .before)) _ (turn .result) (turn .ensures .0) _ _ (c .before .before .before .k .given .1),
+        more-fewer (s .args .s .now) (s .pre .0 .0 .accepted) (loop .work) (loop .made) (loop .latest) (loop .counter) (loop .inv .3) (left (c .before .before .before .before .before .before .before .before .before .before .before .before .before .before)) _ (turn .result) (turn .ensures .0) _ _ (c .before .before .before .k .given .1),
         omega (arith, limit, next .turning .0 .within),
         omega (arith, limit, limit-range (s .args .s .now) ok),
         omega (arith, limit, room-of (s .args .s .now) ok (s .args .work .now) (s .pre .0 .0 .room), turn .kept .1 .1 .1 .1 .0, loop .inv .0),
@@ -84,10 +84,10 @@ same-length c = search needs
 
 returns : tie.Need-returns Inv-loop μ-loop
 returns c =
-    let s = c .before .before .before .before .before .before .before .before .before .before .before .before .before .before .before .before .before .before .before .before in
-    let loop = c .before .before .before .before .before .before .before .before .before .before .before .before .loop in
+    let s = c .before .before .before .before .before .before .before .before .before .before .before .before .before .before .before .before .before .before .before .before .before in
+    let loop = c .before .before .before .before .before .before .before .before .before .before .before .before .before .loop in
     let turn = c .before .before .before .before .before .before .turn in
-    going-plan (s .args .s .now) (s .pre .0 .0 .accepted) (loop .work) (loop .made) (loop .latest) (loop .counter) (loop .inv .3) (left (c .before .before .before .before .before .before .before .before .before .before .before)) _ (turn .result) (turn .ensures .0) _ _ (c .before .n .given .1)
+    going-plan (s .args .s .now) (s .pre .0 .0 .accepted) (loop .work) (loop .made) (loop .latest) (loop .counter) (loop .inv .3) (left (c .before .before .before .before .before .before .before .before .before .before .before .before)) _ (turn .result) (turn .ensures .0) _ _ (c .before .n .given .1)
 
 enum-told : tie.Need-enum-told Inv-loop μ-loop
 enum-told c = search needs
@@ -97,10 +97,10 @@ same-length-2 c = search needs
 
 returns-2 : tie.Need-returns-2 Inv-loop μ-loop
 returns-2 c =
-    let s = c .before .before .before .before .before .before .before .before .before .before .before .before .before .before .before .before .before .before .before in
-    let loop = c .before .before .before .before .before .before .before .before .before .before .before .loop in
+    let s = c .before .before .before .before .before .before .before .before .before .before .before .before .before .before .before .before .before .before .before .before in
+    let loop = c .before .before .before .before .before .before .before .before .before .before .before .before .loop in
     let turn = c .before .before .before .before .before .turn in
-    going-none (s .args .s .now) (s .pre .0 .0 .accepted) (loop .work) (loop .made) (loop .latest) (loop .counter) (loop .inv .3) (left (c .before .before .before .before .before .before .before .before .before .before)) _ (turn .result) (turn .ensures .0) (c .enum-told .given .1)
+    going-none (s .args .s .now) (s .pre .0 .0 .accepted) (loop .work) (loop .made) (loop .latest) (loop .counter) (loop .inv .3) (left (c .before .before .before .before .before .before .before .before .before .before .before)) _ (turn .result) (turn .ensures .0) (c .enum-told .given .1)
 
 enum-known-bound : tie.Need-enum-known-bound Inv-loop μ-loop
 enum-known-bound c = search needs
@@ -110,27 +110,27 @@ same-length-3 c = search needs
 
 returns-3 : tie.Need-returns-3 Inv-loop μ-loop
 returns-3 c =
-    let s = c .before .before .before .before .before .before .before .before .before .before .before .before .before .before .before .before .before .before .before .before in
-    let loop = c .before .before .before .before .before .before .before .before .before .before .before .before .loop in
+    let s = c .before .before .before .before .before .before .before .before .before .before .before .before .before .before .before .before .before .before .before .before .before in
+    let loop = c .before .before .before .before .before .before .before .before .before .before .before .before .before .loop in
     let turn = c .before .before .before .before .before .before .turn in
-    going-spent (s .args .s .now) (s .pre .0 .0 .accepted) (loop .work) (loop .made) (loop .latest) (loop .counter) (loop .inv .3) (left (c .before .before .before .before .before .before .before .before .before .before .before)) _ (turn .result) (turn .ensures .0) _ (c .before .bound .given .1)
+    going-spent (s .args .s .now) (s .pre .0 .0 .accepted) (loop .work) (loop .made) (loop .latest) (loop .counter) (loop .inv .3) (left (c .before .before .before .before .before .before .before .before .before .before .before .before)) _ (turn .result) (turn .ensures .0) _ (c .before .bound .given .1)
 
 add-counter : tie.Need-add-counter Inv-loop μ-loop
-add-counter c = omega (arith, c .before .before .before .before .before .before .before .before .before .before .before .before .before .before .before .before .before .before .before .word-at .ensures .1, c .before .before .before .before .before .before .before .before .before .before .before .before .before .before .loop-test .taken)
+add-counter c = omega (arith, c .before .before .before .before .before .before .before .before .before .before .before .before .before .before .before .before .before .before .before .before .word-at .ensures .1, c .before .before .before .before .before .before .before .before .before .before .before .before .before .before .before .loop-test .taken)
 
 loop-less : tie.Need-loop-less Inv-loop μ-loop
-loop-less c = omega (arith, c .before .before .before .before .before .before .before .before .before .before .before .before .before .before .loop-test .taken)
+loop-less c = omega (arith, c .before .before .before .before .before .before .before .before .before .before .before .before .before .before .before .loop-test .taken)
 
 loop-again : tie.Need-loop-again Inv-loop μ-loop
 loop-again c =
-    let s = c .before .before .before .before .before .before .before .before .before .before .before .before .before .before .before .before .before .before .before .before .before .before .before in
-    let loop = c .before .before .before .before .before .before .before .before .before .before .before .before .before .before .before .loop in
+    let s = c .before .before .before .before .before .before .before .before .before .before .before .before .before .before .before .before .before .before .before .before .before .before .before .before in
+    let loop = c .before .before .before .before .before .before .before .before .before .before .before .before .before .before .before .before .loop in
     let turn = c .before .before .before .before .before .before .before .before .before .turn in (
       turn .kept .1 .1 .1 .1 .0 ∙ loop .inv .0,
       turn .kept .1 .1 .1 .1 .1 .1 .0 ∙ loop .inv .1,
-      omega (arith, c .before .before .before .before .before .before .before .before .before .before .before .before .before .before .loop-test .taken),
-      going-more (s .args .s .now) (s .pre .0 .0 .accepted) (loop .work) (loop .made) (loop .latest) (loop .counter) (loop .inv .3) (left (c .before .before .before .before .before .before .before .before .before .before .before .before .before .before)) _ (turn .result) (turn .ensures .0) _ _ (c .before .before .before .before .k .given .1),
-      lows-limit _ (c .before .before .before .before .before .before .before .before .before .before .before .before .before .before .before .before .before .before .before .word-at .ensures .0) (c .enter2 .ensures),
+      omega (arith, c .before .before .before .before .before .before .before .before .before .before .before .before .before .before .before .loop-test .taken),
+      going-more (s .args .s .now) (s .pre .0 .0 .accepted) (loop .work) (loop .made) (loop .latest) (loop .counter) (loop .inv .3) (left (c .before .before .before .before .before .before .before .before .before .before .before .before .before .before .before)) _ (turn .result) (turn .ensures .0) _ _ (c .before .before .before .before .k .given .1),
+      lows-limit _ (c .before .before .before .before .before .before .before .before .before .before .before .before .before .before .before .before .before .before .before .before .word-at .ensures .0) (c .enter2 .ensures),
     )
 
 same-length-4 : tie.Need-same-length-4 Inv-loop μ-loop

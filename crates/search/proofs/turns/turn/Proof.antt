@@ -86,10 +86,10 @@ close-requires c κs =
 
 collision-of-requires : tie.Need-collision-of-requires
 collision-of-requires c κs =
-    let s = c .before .before .before .before .before .before .before .before .before .before .before .before .before .before .before .before .before in
+    let s = c .before .before .before .before .before .before .before .before .before .before .before .before .before .before .before .before .before .before in
     let ok = s .pre .0 .0 .accepted in
-    let t = took (c .before .before .before) (s .pre .1 .0) (s .pre .1 .1) (s .pre .1 .2) in
-    (ok, s .pre .0 .1, omega (arith, c .before .before .before .close .kept .0, t .inside, s .pre .1 .2 .0 .within, room-of (s .args .s .now) ok (s .args .work .now) (s .pre .0 .0 .room)))
+    let t = took (c .before .before .before .before) (s .pre .1 .0) (s .pre .1 .1) (s .pre .1 .2) in
+    (ok, s .pre .0 .1, omega (arith, c .before .before .before .before .close .kept .0, t .inside, s .pre .1 .2 .0 .within, room-of (s .args .s .now) ok (s .args .work .now) (s .pre .0 .0 .room)))
 
 enum-known-c : tie.Need-enum-known-c
 enum-known-c c = search needs
@@ -99,36 +99,36 @@ same-length-2 c = search needs
 
 returns-2 : tie.Need-returns-2
 returns-2 c =
-    let s = c .before .before .before .before .before .before .before .before .before .before .before .before .before .before .before .before .before .before .before in (
+    let s = c .before .before .before .before .before .before .before .before .before .before .before .before .before .before .before .before .before .before .before .before in (
       λ st k turning.
-          took-plan (s .args .s .now) (s .pre .0 .0 .accepted) (s .args .work .now) (s .args .made) (s .args .latest) k st turning (c .before .before .before .before .before .close .last .0) _ _
-          (took (c .before .before .before .before .before) st k turning) (s .pre .0 .0 .room)
+          took-plan (s .args .s .now) (s .pre .0 .0 .accepted) (s .args .work .now) (s .args .made) (s .args .latest) k st turning (c .before .before .before .before .before .before .close .last .0) _ _
+          (took (c .before .before .before .before .before .before) st k turning) (s .pre .0 .0 .room)
           (none-is (λ (r : CollisionAnswer). OneOf (1 ∷ 2 ∷ []) (tagOf the-type r)) (λ x h. ⊎-elim (λ e. omega arith) (λ e. omega arith) h) _ _ (c .before .collision-of .ensures) (c .match2 .keys2)),
-      lows-limit _ (c .before .before .before .before .before .before .before .before .before .before .before .before .before .before .word-at .ensures .0) (c .before .before .before .before .before .close .ensures .1),
+      lows-limit _ (c .before .before .before .before .before .before .before .before .before .before .before .before .before .before .before .word-at .ensures .0) (c .before .before .before .before .before .before .close .ensures .1),
     )
 
 -- the first collision of the node that was taken
-first : (c : tie.After-known-told2) → let s = c .before .before .before .before .before .before .before .before .before .before .before .before .before .before .before .before .before .before .before .before .before in
-    firstCollision (read (s .args .s .now) .count) (read (s .args .s .now) .horizon) (nodeAt (read (s .args .s .now)) (c .before .before .before .before .before .before .before .close .last .0) (c .before .before .before .before .before .before .before .before .before .before .before .n .given .0 .0) .paths) ≡ some (c .before .c .given .0 .0)
+first : (c : tie.After-known-told2) → let s = c .before .before .before .before .before .before .before .before .before .before .before .before .before .before .before .before .before .before .before .before .before .before in
+    firstCollision (read (s .args .s .now) .count) (read (s .args .s .now) .horizon) (nodeAt (read (s .args .s .now)) (c .before .before .before .before .before .before .before .before .close .last .0) (c .before .before .before .before .before .before .before .before .before .before .before .before .n .given .0 .0) .paths) ≡ some (c .before .c .given .0 .0)
 first c = found-is _ _ (sym (c .before .c .given .1) ∙ c .before .before .before .collision-of .ensures)
 
 expanded-requires : tie.Need-expanded-requires
 expanded-requires c κs =
-    let s = c .before .before .before .before .before .before .before .before .before .before .before .before .before .before .before .before .before .before .before .before .before .before .before .before in
+    let s = c .before .before .before .before .before .before .before .before .before .before .before .before .before .before .before .before .before .before .before .before .before .before .before .before .before in
     let st = s .pre .1 .0 in
     let k = s .pre .1 .1 in
     let turning = s .pre .1 .2 in
-    let t = took (c .before .before .before .before .before .before .before .before .before .before) st k turning in
+    let t = took (c .before .before .before .before .before .before .before .before .before .before .before) st k turning in
     let ok = s .pre .0 .0 .accepted in
     let room = s .pre .0 .0 .room in
-    let good = took-good (s .args .s .now) ok (s .args .work .now) (s .args .made) (s .args .latest) k st turning (c .before .before .before .before .before .before .before .before .before .before .close .last .0) _ _ t room _ (first (c .before .before .before)) in (
+    let good = took-good (s .args .s .now) ok (s .args .work .now) (s .args .made) (s .args .latest) k st turning (c .before .before .before .before .before .before .before .before .before .before .before .close .last .0) _ _ t room _ (first (c .before .before .before)) in (
       (
-        took-given (s .args .s .now) ok (s .args .work .now) (s .args .made) (s .args .latest) k st turning (c .before .before .before .before .before .before .before .before .before .before .close .last .0) _ _ t room (s .args .mask .now) (s .args .t .now) (s .args .bounds .now) (s .pre .0 .0),
+        took-given (s .args .s .now) ok (s .args .work .now) (s .args .made) (s .args .latest) k st turning (c .before .before .before .before .before .before .before .before .before .before .before .close .last .0) _ _ t room (s .args .mask .now) (s .args .t .now) (s .args .bounds .now) (s .pre .0 .0),
         t .inside,
         s .pre .0 .2,
-        (_, took-held (s .args .s .now) ok (s .args .work .now) (s .args .made) (s .args .latest) k st turning (c .before .before .before .before .before .before .before .before .before .before .close .last .0) _ _ t room),
+        (_, took-held (s .args .s .now) ok (s .args .work .now) (s .args .made) (s .args .latest) k st turning (c .before .before .before .before .before .before .before .before .before .before .before .close .last .0) _ _ t room),
       ),
-      (took-ordered (s .args .s .now) ok (s .args .work .now) (s .args .made) (s .args .latest) k st turning (c .before .before .before .before .before .before .before .before .before .before .close .last .0) _ _ t room, good .0, good .1),
+      (took-ordered (s .args .s .now) ok (s .args .work .now) (s .args .made) (s .args .latest) k st turning (c .before .before .before .before .before .before .before .before .before .before .before .close .last .0) _ _ t room, good .0, good .1),
     )
 
 same-length-3 : tie.Need-same-length-3
@@ -139,12 +139,12 @@ same-length-4 c = search needs
 
 returns-3 : tie.Need-returns-3
 returns-3 c =
-    let s = c .before .before .before .before .before .before .before .before .before .before .before .before .before .before .before .before .before .before .before .before .before .before .before .before .before .before .before .before .before in
+    let s = c .before .before .before .before .before .before .before .before .before .before .before .before .before .before .before .before .before .before .before .before .before .before .before .before .before .before .before .before .before .before in
     let expanded = c .before .before .before .before .expanded in (
       λ st k turning.
-          took-turned (s .args .s .now) (s .pre .0 .0 .accepted) (s .args .work .now) (s .args .made) (s .args .latest) k st turning (c .before .before .before .before .before .before .before .before .before .before .before .before .before .before .before .close .last .0) _ _
-          (took (c .before .before .before .before .before .before .before .before .before .before .before .before .before .before .before) st k turning) (s .pre .0 .0 .room) _ (first (c .before .before .before .before .before .before .before .before)) (expanded .last .1 .1 .1 .0) (expanded .result) (expanded .ensures .0),
-      lows-kept (expanded .ensures .1 .keys) (lows-limit _ (c .before .before .before .before .before .before .before .before .before .before .before .before .before .before .before .before .before .before .before .before .before .before .before .before .word-at .ensures .0) (c .before .before .before .before .before .before .before .before .before .before .before .before .before .before .before .close .ensures .1)),
+          took-turned (s .args .s .now) (s .pre .0 .0 .accepted) (s .args .work .now) (s .args .made) (s .args .latest) k st turning (c .before .before .before .before .before .before .before .before .before .before .before .before .before .before .before .before .close .last .0) _ _
+          (took (c .before .before .before .before .before .before .before .before .before .before .before .before .before .before .before .before) st k turning) (s .pre .0 .0 .room) _ (first (c .before .before .before .before .before .before .before .before)) (expanded .last .1 .1 .1 .0) (expanded .result) (expanded .ensures .0),
+      lows-kept (expanded .ensures .1 .keys) (lows-limit _ (c .before .before .before .before .before .before .before .before .before .before .before .before .before .before .before .before .before .before .before .before .before .before .before .before .before .word-at .ensures .0) (c .before .before .before .before .before .before .before .before .before .before .before .before .before .before .before .before .close .ensures .1)),
     )
 
 pub turn-spec : {M : Type 1} → statement M
