@@ -10,7 +10,7 @@ use lib.Dec.{eqb, ltb}
 use lib.ListN.{length, getD}
 use borrow.Author.Tests.{ne-eqb, eqb-false, not-true, ltb-true, ltb-false}
 use borrow.Author.Count.{below-more}
-use Rattle.deck.specs.Lists.{below, takeLeast}
+use Rattle.deck.specs.Lists.{takeLeast}
 use Rattle.deck.specs.Sheet.{Sheet}
 use Rattle.deck.specs.Search.{Node}
 use Rattle.deck.specs.declared.Constraint.{Constraint}

@@ -1,7 +1,7 @@
 -- `search::expand::next_root` meets its contract, by whether the node is a root, whether a slot is left, and whether a node may still
 -- be made. Assumes nothing.
 use borrow.Author.Needs.{needs}
-use mathlib.Core.Path.{refl, subst}
+use mathlib.Core.Path.{subst}
 use native.Mathlib.Omega.{arith}
 use Prim.Native.Nat.{_<_}
 use Rattle.deck.specs.Sheet.{read}
