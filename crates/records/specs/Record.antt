@@ -13,8 +13,9 @@ use Rattle.records.specs.Cut.{part, put, cut}
 use Rattle.records.specs.declared.NodeHead.{NodeHead}
 
 -- 0 the link: 0 for a root, else parent + 1; 1 to 5 the constraint; 6 to 17 the tasks; 18 to 29 the finishes; 30 of a root: the row
--- of its part of the assignments; 31 is free; 32 to 199 of a root: twelve slots of 14 words; 200 to 439 twelve packed paths of 20
--- words; of a root: 440 the root before it + 1, 0 for the first, and 441 to 452 the closed tasks of its part; the rest is free
+-- of its part of the assignments; 31 of a number up to the latest root: the word of the tournament of the slots; 32 to 199 of a
+-- root: twelve slots of 14 words; 200 to 439 twelve packed paths of 20 words; of a root: 440 the root before it + 1, 0 for the
+-- first, and 441 to 452 the closed tasks of its part; the rest is free
 abbrev pub layout : List ℕ
 layout = 1 ∷ 5 ∷ 12 ∷ 12 ∷ 1 ∷ 1 ∷ 168 ∷ 240 ∷ 1 ∷ 12 ∷ 59 ∷ []
 
@@ -59,6 +60,9 @@ finishesIn fs = getD fs 3 []
 
 abbrev pub rowIn : List (List ℕ) → ℕ
 rowIn fs = getD (getD fs 4 []) 0 0
+
+abbrev pub queueIn : List (List ℕ) → ℕ
+queueIn fs = getD (getD fs 5 []) 0 0
 
 -- slot j: a flag, a sum and twelve tasks
 abbrev pub slotIn : List (List ℕ) → ℕ → List ℕ
