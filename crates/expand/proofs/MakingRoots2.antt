@@ -23,8 +23,9 @@ use Rattle.partition.proofs.Candidates.{Candidate, candidate-meant}
 use Rattle.records.specs.Record.{fieldsAt, rootIn}
 use Rattle.nodes.specs.Nodes.{nodeAt}
 use Rattle.nodes.proofs.Readers.{root-read, accepted-fits}
-use Rattle.roots.specs.Slots.{slotOf, slotsAt, SlotsHold, Older}
-use Rattle.roots.specs.Choices.{Live, ChosenOf, NextTaken}
+use Rattle.roots.specs.Slots.{slotOf, slotsAt, Older}
+use Rattle.roots.specs.Choices.{Live, ChosenOf}
+use Rattle.roots.specs.Tournament.{Tournament, SlotsHold, NextTaken}
 use Rattle.roots.specs.Begun.{RootBegun}
 use Rattle.roots.specs.declared.Choice.{Choice}
 use Rattle.roots.specs.declared.Choice.the-variants.{Nothing, Slot as Chosen}
@@ -87,6 +88,9 @@ module _ {s mask table work bounds : List ℕ} (g : Given s mask table work boun
     pub slots-fall : Older work latest
     slots-fall = slots-older m (copied m table) work latest (st .rest) slots-asked
 
+    pub slots-played : Tournament m work latest
+    slots-played = slots-asked .tournament
+
     -- without a slot no assignment remains
     pub without-slot : (r : Choice) → ChosenOf m work latest (slotsAt m work latest) r → r ≡ Nothing → st .rest ≡ []
     without-slot r c e = nothing-left m (copied m table) work latest (st .rest) slots-asked few-carriers (subst (ChosenOf m work latest (slotsAt m work latest)) e c)
@@ -105,10 +109,10 @@ module _ {s mask table work bounds : List ℕ} (g : Given s mask table work boun
         inside = live-slot m work latest n j live
 
         first : Candidate m (copied m table) (slot .part) (some (slot .first))
-        first = subst (Candidate m (copied m table) (slot .part)) (slots-asked .holds .right slot inside) (candidate-meant m (copied m table) (slot .part))
+        first = subst (Candidate m (copied m table) (slot .part)) (slots-asked .parts .holds .right slot inside) (candidate-meant m (copied m table) (slot .part))
 
         remains : Mem (slot .first) (st .rest)
-        remains = slots-asked .holds .held slot inside (slot .first) (first .0) (first .1)
+        remains = slots-asked .parts .holds .held slot inside (slot .first) (first .0) (first .1)
 
         go : (rest : List (List ℕ)) → Mem (slot .first) rest → (a : List ℕ) × (others : List (List ℕ)) × (rest ≡ a ∷ others)
         go [] i = absurd (not-nil i)

@@ -15,7 +15,7 @@ use Rattle.prices.specs.Square.{copied}
 use Rattle.records.specs.Record.{fieldsAt, keyAt}
 use Rattle.nodes.specs.Nodes.{nodeAt, openedAt}
 use Rattle.nodes.specs.Stored.{Stored, RootSoFar}
-use Rattle.roots.specs.Slots.{SlotsHold}
+use Rattle.roots.specs.Tournament.{SlotsHold}
 use Rattle.roots.specs.Begun.{SlotsAlike}
 use Rattle.optimal.proofs.Deck.{rules}
 use Rattle.optimal.proofs.Nodes.{InOrder}

@@ -13,8 +13,7 @@ use Rattle.deck.specs.Lists.{flat, headOf}
 use Rattle.deck.specs.Assignments.{assignmentsInOrder, leastAssignment}
 use Rattle.deck.specs.Calls.{taskList, overwrite, assignmentCause}
 use Rattle.records.specs.Cut.{part, put}
-use Rattle.roots.specs.Slots.{SlotsHold}
-use Rattle.roots.specs.Choices.{NextTaken}
+use Rattle.roots.specs.Tournament.{SlotsHold, NextTaken}
 use Rattle.in_order.specs.declared.Count.{Count}
 use Rattle.in_order.specs.Listed.{listsOf, roomFor, listedFor, Remaining, Taken, Listing, InOrderCall}
 

@@ -8,8 +8,7 @@ use lib.ListN.{length, take}
 use Rattle.deck.specs.Lists.{flat}
 use Rattle.deck.specs.Assignments.{assignmentsInOrder}
 use Rattle.deck.specs.Calls.{taskList, overwrite, assignmentCause}
-use Rattle.roots.specs.Slots.{SlotsHold}
-use Rattle.roots.specs.Choices.{NextTaken}
+use Rattle.roots.specs.Tournament.{SlotsHold, NextTaken}
 use Rattle.in_order.specs.declared.Count.{Count}
 
 -- assignments as lists of 12, one after the other

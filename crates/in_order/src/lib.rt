@@ -8,7 +8,7 @@ ghost use lib.ListN.{length};
 ghost use Rattle.deck.specs.Calls.{assignmentCause};
 ghost use Rattle.deck.specs.Assignments.{assignmentsInOrder};
 ghost use Rattle.prices.specs.Square.{copied};
-ghost use Rattle.roots.specs.Slots.{SlotsHold};
+ghost use Rattle.roots.specs.Tournament.{SlotsHold};
 ghost use Rattle.in_order.specs.Listed.{roomFor, Remaining, Taken, Listing, InOrderCall};
 
 // The cause of a refusal, 0 for none, and how many assignments are listed.

@@ -9,7 +9,7 @@ ghost use Rattle.deck.specs.Lists.{sum};
 ghost use Rattle.deck.specs.Sheet.{task};
 ghost use Rattle.pack.specs.Pack.{packOf};
 ghost use Rattle.records.specs.Cut.{part, put};
-ghost use Rattle.records.specs.Record.{fields, fieldsAt, linkIn, rootIn, constraintIn, ownIn, headIn, tasksIn, finishesIn, rowIn, closedIn, slotIn, flagIn, sumIn, slotTasksIn, olderIn, queueIn, bytes, wordsOf, Small, withPath, withSlot, rootFields, closedKey, withKey, Wrote};
+ghost use Rattle.records.specs.Record.{fields, fieldsAt, linkIn, rootIn, constraintIn, ownIn, headIn, tasksIn, finishesIn, rowIn, closedIn, slotIn, flagIn, sumIn, slotTasksIn, queueIn, bytes, wordsOf, Small, withPath, withSlot, rootFields, closedKey, withKey, Wrote};
 use deck::Carrier;
 use deck::Constraint;
 use deck::Task;
@@ -176,13 +176,6 @@ pub fn closed_of(work: &[u32], n: usize) -> [u8; 12]
 {
     let at = 512 * n;
     bytes_of(&work[at + 441..at + 453])
-}
-
-pub fn older_of(work: &[u32], n: usize) -> usize
-    requires { ⌜ 512 * n + 512 ≤ length (now work) ⌝ }
-    ensures { λ r. ⌜ r ≡ olderIn (fieldsAt (now (work .entry)) n) ⌝ }
-{
-    wide(work[512 * n + 440])
 }
 
 // The word of the tournament of the slots.

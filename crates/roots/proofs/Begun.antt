@@ -1,61 +1,82 @@
 -- What making a root leaves of the nodes, and what other writes leave of the slots. Assumes nothing.
-use Prim.Native.Nat.{ℕ, _-_, _<_}
-use mathlib.Core.Path.{_≡_, refl, ap, subst, _∙_}
-use mathlib.Core.List.{List, List·Memᴰ as Mem}
+use Prim.Native.Nat.{ℕ, _+_, _-_, _<_}
+use mathlib.Core.Path.{_≡_, refl, sym, ap, subst, _∙_}
+use mathlib.Core.Logic.{inl, inr, ⊎-elim, _≢_}
+use mathlib.Core.List.{List, [], List·Memᴰ as Mem}
 use native.Mathlib.Omega.{arith}
 use native.Mathlib.Decide.{ℕ-discrete}
 use lib.ListN.{getD, set, length}
+use lib.Seq.{getD-set-other}
 use Rattle.deck.specs.Lists.{countFrom}
 use Rattle.deck.specs.Sheet.{Sheet}
 use Rattle.deck.specs.Calls.{taskList}
 use Rattle.meaning.specs.Meaning.{_at_}
 use Rattle.partition.proofs.Splits.{none-closed}
-use Rattle.records.specs.Record.{fields, fieldsAt, linkIn, tasksIn, finishesIn, rowIn, slotIn, rootFields, withPath, Wrote}
+use Rattle.records.specs.Record.{fields, fieldsAt, rowIn, slotIn, rootFields, withPath, Wrote}
 use Rattle.nodes.specs.Nodes.{nodeAt, openedAt}
 use Rattle.nodes.specs.Stored.{Stored, RootSoFar}
 use Rattle.nodes.proofs.Kept.{Alike, alike-same, slot-alike, kept-stored, kept-nodes, kept-opened}
-use Rattle.roots.specs.Slots.{rootsAt, slotHere, rootSlots, slotsAt, Rooted, SlotsHold, RootMade}
+use Rattle.roots.specs.Slots.{rootsAt, slotHere, rootSlots, slotsAt, Rooted, PartsHold, RootMade}
 use Rattle.roots.specs.Choices.{Cleared}
-use Rattle.roots.specs.Begun.{RootBegun, SlotsAlike}
+use Rattle.roots.specs.Tournament.{ownAt, Tournament, Queued, SlotsHold}
+use Rattle.roots.specs.Begun.{RootBegun, PartsAlike, SlotsAlike}
 use Rattle.roots.proofs.Chains.{roots-below, roots-same}
 use Rattle.roots.proofs.Taken.{each-same}
+use Rattle.roots.proofs.Codes.{win-kept, own-kept}
+use Rattle.roots.proofs.Playing.{order-slots, best-same, played-on}
 
 -- THE ROOT
-module _ (m : ℕ) (table mid after : List ℕ) (made : ℕ) (tasks : List ℕ) (row : ℕ) (closed : List ℕ) (older : ℕ) (u : RootMade m table mid after made tasks row closed older) where
-  new-root : (d : Sheet) (a : List ℕ) → length a ≡ d .count → ((k : ℕ) → a at k < 256) → tasks ≡ taskList a → RootSoFar d after made a 0
+module _ (m : ℕ) (table mid after final : List ℕ) (made : ℕ) (tasks : List ℕ) (row : ℕ) (closed : List ℕ) (older : ℕ) (u : RootMade m table mid after made tasks row closed older) (q : Queued after final (made + 1)) where
+  new-field : (f : ℕ) → f ≢ 5 → f ≢ 6 → getD (fieldsAt final made) f [] ≡ getD (rootFields tasks row closed older) f []
+  new-field f a b =
+      q .fields made f a ∙ ap (λ (l : List (List ℕ)). getD l f []) (u .same .here)
+      ∙ getD-set-other (rootFields tasks row closed older) 6 f (getD (fieldsAt after made) 6 []) [] b
+
+  new-root : (d : Sheet) (a : List ℕ) → length a ≡ d .count → ((k : ℕ) → a at k < 256) → tasks ≡ taskList a → RootSoFar d final made a 0
   unfolding rootFields
   new-root d a l b e =
       record {
-        link = ap linkIn (u .same .here);
-        own = rw (u .same .here) (omega arith);
-        tasks = ap tasksIn (u .same .here) ∙ e;
+        link = ap (λ (l : List ℕ). getD l 0 0) (new-field 0 (λ z. omega arith) (λ z. omega arith));
+        own = rw (new-field 1 (λ z. omega arith) (λ z. omega arith)) (omega arith);
+        tasks = new-field 2 (λ z. omega arith) (λ z. omega arith) ∙ e;
         long = l;
         bytes = b;
         least = λ k h. absurd (omega arith);
         finishes = λ k h. absurd (omega arith);
-        zeros = λ k h. ap (λ (l : List (List ℕ)). getD (finishesIn l) k 0) (u .same .here) ∙ none-closed k;
+        zeros = λ k h. ap (λ (l : List ℕ). getD l k 0) (new-field 3 (λ z. omega arith) (λ z. omega arith)) ∙ none-closed k;
       }
 
-  pub made-begun : RootBegun mid after made tasks
+  -- the node of another number is as it was
+  node-kept : (before : List ℕ) (k : ℕ) → Alike (fieldsAt after k) (fieldsAt before k) → Alike (fieldsAt final k) (fieldsAt before k)
+  node-kept before k a =
+      record {
+        link = q .fields k 0 (λ z. omega arith) ∙ a .link;
+        own = q .fields k 1 (λ z. omega arith) ∙ a .own;
+        tasks = q .fields k 2 (λ z. omega arith) ∙ a .tasks;
+        finishes = q .fields k 3 (λ z. omega arith) ∙ a .finishes;
+        paths = q .fields k 7 (λ z. omega arith) ∙ a .paths;
+      }
+
+  pub made-begun : RootBegun mid final made tasks
   made-begun = record {
     root = new-root;
-    alike = λ k ne. alike-same (fieldsAt after k) (fieldsAt mid k) (u .same .records k ne);
-    keys = λ limit k l. u .same .keys limit k l;
+    alike = λ k ne. node-kept mid k (alike-same (fieldsAt after k) (fieldsAt mid k) (u .same .records k ne));
+    keys = λ limit k l. q .keys limit k (omega arith) ∙ u .same .keys limit k l;
   }
 
   -- and a slot of an older root was cleared before
-  pub next-begun : (before : List ℕ) (n j : ℕ) → n < made → Cleared before mid n j → RootBegun before after made tasks
+  pub next-begun : (before : List ℕ) (n j : ℕ) → n < made → Cleared before mid n j → RootBegun before final made tasks
   next-begun before n j l c = record {
     root = new-root;
-    alike = λ k ne. rw (u .same .records k ne) (slot-alike before mid n j (set (slotIn (fieldsAt before n) j) 0 0) c k);
-    keys = λ limit k h. u .same .keys limit k h ∙ c .keys limit k (omega arith);
+    alike = λ k ne. node-kept before k (rw (u .same .records k ne) (slot-alike before mid n j (set (slotIn (fieldsAt before n) j) 0 0) c k));
+    keys = λ limit k h. q .keys limit k (omega arith) ∙ u .same .keys limit k h ∙ c .keys limit k (omega arith);
   }
 
 -- THE SLOTS are read from their fields of the roots' records alone
 pub slots-same : (fs gs : List (List ℕ)) → fs ≡ gs → SlotsAlike fs gs
-slots-same fs gs e = rw e (record { tasks = refl; row = refl; slots = refl; older = refl; closed = refl })
+slots-same fs gs e = rw e (record { parts = record { tasks = refl; row = refl; slots = refl; older = refl; closed = refl }; queue = refl })
 
-module _ (m : ℕ) (fs gs : List (List ℕ)) (a : SlotsAlike fs gs) where
+module _ (m : ℕ) (fs gs : List (List ℕ)) (a : PartsAlike fs gs) where
   root-slots-same : rootSlots m fs ≡ rootSlots m gs
   unfolding rootSlots slotHere
   root-slots-same = rw (a .row) (each-same (slotHere m fs) (slotHere m gs) (countFrom (rowIn gs) (m - rowIn gs)) (λ j i. rw (a .tasks, a .row, a .slots, a .closed)))
@@ -69,29 +90,67 @@ module _ (m : ℕ) (fs gs : List (List ℕ)) (a : SlotsAlike fs gs) where
       }
 
 -- THE FRAME: whatever leaves these fields leaves the slots, and what they hold
-pub slots-kept : (m : ℕ) (table before after : List ℕ) (latest : ℕ) (rest : List (List ℕ)) → ((n : ℕ) → n < latest → SlotsAlike (fieldsAt after n) (fieldsAt before n))
-    → SlotsHold m table before latest rest → SlotsHold m table after latest rest
+pub roots-kept : (before after : List ℕ) (latest : ℕ) → ((n : ℕ) → Mem n (rootsAt before latest) → PartsAlike (fieldsAt after n) (fieldsAt before n)) → rootsAt after latest ≡ rootsAt before latest
+roots-kept before after latest alike = roots-same (fieldsAt before) (fieldsAt after) latest latest (λ n i. ap (λ (l : List ℕ). getD l 0 0) (alike n i .older))
+
+pub parts-kept : (m : ℕ) (table before after : List ℕ) (latest : ℕ) (rest : List (List ℕ)) → ((n : ℕ) → Mem n (rootsAt before latest) → PartsAlike (fieldsAt after n) (fieldsAt before n))
+    → PartsHold m table before latest rest → PartsHold m table after latest rest
 unfolding slotsAt
-slots-kept m table before after latest rest alike H =
+parts-kept m table before after latest rest alike H =
     record {
-      roots = λ n i. let k = subst (Mem n) same i in rooted-same m (fieldsAt after n) (fieldsAt before n) (alike n (low n k)) table n (H .roots n k);
+      roots = λ n i. let k = subst (Mem n) same i in rooted-same m (fieldsAt after n) (fieldsAt before n) (alike n k) table n (H .roots n k);
       holds =
-          rw (same, each-same (λ n. rootSlots m (fieldsAt after n)) (λ n. rootSlots m (fieldsAt before n)) (rootsAt before latest) (λ n i. root-slots-same m (fieldsAt after n) (fieldsAt before n) (alike n (low n i))))
+          rw (same, each-same (λ n. rootSlots m (fieldsAt after n)) (λ n. rootSlots m (fieldsAt before n)) (rootsAt before latest) (λ n i. root-slots-same m (fieldsAt after n) (fieldsAt before n) (alike n i)))
           (H .holds);
     }
   where
+    same : rootsAt after latest ≡ rootsAt before latest
+    same = roots-kept before after latest alike
+
+pub slots-kept : (m : ℕ) (table before after : List ℕ) (latest : ℕ) (rest : List (List ℕ)) → ((n : ℕ) → n < latest → SlotsAlike (fieldsAt after n) (fieldsAt before n))
+    → SlotsHold m table before latest rest → SlotsHold m table after latest rest
+slots-kept m table before after latest rest alike H =
+    record { parts = parts-kept m table before after latest rest (λ n i. alike n (low n i) .parts) (H .parts); tournament = kept }
+  where
     low : (n : ℕ) → Mem n (rootsAt before latest) → n < latest
-    low n i = roots-below (fieldsAt before) latest latest (λ k j. H .roots k j .older) n i
+    low n i = roots-below (fieldsAt before) latest latest (λ k j. H .parts .roots k j .older) n i
 
     same : rootsAt after latest ≡ rootsAt before latest
-    same = roots-same (fieldsAt before) (fieldsAt after) latest latest (λ n i. ap (λ (l : List ℕ). getD l 0 0) (alike n (low n i) .older))
+    same = roots-kept before after latest (λ n i. alike n (low n i) .parts)
+
+    own : (k : ℕ) → k < latest → ownAt after k ≡ ownAt before k
+    own k l = own-kept before after k (alike k l .queue)
+
+    kept : Tournament m after latest
+    kept =
+        record {
+          played =
+              played-on before after latest latest (omega arith) (λ k l. order-slots (fieldsAt after k) (fieldsAt before k) (alike k l .parts .slots)) (λ k l. win-kept before after k (alike k l .queue)) own
+              (λ k a b. absurd (omega arith)) (λ k a b. absurd (omega arith)) (H .tournament .played);
+          roots = λ k i.
+              let j = subst (Mem k) same i in
+              let l = low k j in
+              own k l ∙ H .tournament .roots k j ∙ sym (best-same before after k (alike k l .parts .slots) m (alike k l .parts .row));
+          others = λ k l. ⊎-elim (λ e. inl (own k l ∙ e)) (λ i. inr (subst (Mem k) (sym same) i)) (H .tournament .others k l);
+        }
+
+-- words of the tournament are written
+pub queued-alike : (before after : List ℕ) (l : ℕ) → Queued before after l → (k : ℕ) → PartsAlike (fieldsAt after k) (fieldsAt before k)
+queued-alike before after l q k =
+    record {
+      tasks = q .fields k 2 (λ e. omega arith);
+      row = q .fields k 4 (λ e. omega arith);
+      slots = q .fields k 6 (λ e. omega arith);
+      older = q .fields k 8 (λ e. omega arith);
+      closed = q .fields k 9 (λ e. omega arith);
+    }
 
 -- a path is written
 pub path-slots-alike : (before after : List ℕ) (n i finish : ℕ) (packed : List ℕ) → Wrote before after n (withPath (fieldsAt before n) i finish packed) → (k : ℕ) → SlotsAlike (fieldsAt after k) (fieldsAt before k)
 path-slots-alike before after n i finish packed u k = go (ℕ-discrete k n)
   where
     path-alike : SlotsAlike (withPath (fieldsAt before n) i finish packed) (fieldsAt before n)
-    path-alike = unfold fieldsAt in unfold fields in record { tasks = refl; row = refl; slots = refl; older = refl; closed = refl }
+    path-alike = unfold fieldsAt in unfold fields in record { parts = record { tasks = refl; row = refl; slots = refl; older = refl; closed = refl }; queue = refl }
 
     go : Dec (k ≡ n) → SlotsAlike (fieldsAt after k) (fieldsAt before k)
     go (yes z) = rw (z, u .here) path-alike

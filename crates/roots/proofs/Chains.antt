@@ -1,12 +1,12 @@
 -- The roots along the links to older ones. Assumes nothing.
-use Prim.Native.Nat.{ℕ, zero, suc, _-_, _<_, _≤_}
-use mathlib.Core.Path.{_≡_, refl, sym, ap, _∙_}
+use Prim.Native.Nat.{ℕ, zero, suc, _<_, _≤_}
+use mathlib.Core.Path.{_≡_, refl, sym, ap}
 use mathlib.Core.Logic.{⊎-elim}
 use mathlib.Core.List.{List, [], _∷_, List·Memᴰ as Mem, List·Memᴰ·head as here, List·Memᴰ·tail as there, List·Memᴰ·not-nil as not-nil, List·Memᴰ·cases-cons as cases-cons}
 use native.Mathlib.Omega.{arith}
 use Rattle.meaning.proofs.Lists.{Sorted}
-use Rattle.records.specs.Record.{fieldsAt, olderIn}
-use Rattle.roots.specs.Slots.{rootsFrom, rootsAt, Older}
+use Rattle.records.specs.Record.{olderIn}
+use Rattle.roots.specs.Slots.{rootsFrom}
 
 module _ (f : ℕ → List (List ℕ)) where
   -- the links from `link` on lead to smaller numbers
@@ -55,27 +55,3 @@ module _ (f : ℕ → List (List ℕ)) where
   roots-same h (suc k) zero e = refl
   roots-same h (suc k) (suc n) e =
       rw (e n (here refl)) (ap (λ (l : List ℕ). n ∷ l) (roots-same h k (olderIn (f n)) (λ i m. e i (there m))))
-
--- ONE ROOT AFTER ANOTHER, in the workspace
-module _ (work : List ℕ) (at : ℕ) (some : (at ≡ 0 → ⊥)) (falls : Older work at) where
-  abbrev next : ℕ
-  next = olderIn (fieldsAt work (at - 1))
-
-  unrolled : (k : ℕ) → at ≡ suc k → rootsAt work at ≡ k ∷ rootsFrom k (fieldsAt work) (olderIn (fieldsAt work k))
-  unfolding rootsFrom
-  unrolled k e = rw e
-
-  pub older-less : next ≤ at - 1
-  older-less =
-      let e : at ≡ suc (at - 1) = omega (arith, some) in
-      falls (at - 1) (rw (unrolled (at - 1) e) (here refl))
-
-  pub roots-step : rootsAt work at ≡ (at - 1) ∷ rootsAt work next
-  roots-step =
-      let e : at ≡ suc (at - 1) = omega (arith, some) in
-      unrolled (at - 1) e
-      ∙ ap (λ (l : List ℕ). (at - 1) ∷ l)
-      (roots-fuel (fieldsAt work) (at - 1) next next older-less (omega arith) (λ n m. falls n (rw (unrolled (at - 1) e) (there m))))
-
-  pub older-next : Older work next
-  older-next n m = falls n (rw roots-step (there m))

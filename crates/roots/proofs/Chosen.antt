@@ -10,12 +10,12 @@ use lib.ListN.{length, take, replicate, List·getD-append, getD-replicate, List�
 use lib.Seq.{getD-append-add}
 use lib.Dec.{eqb}
 use borrow.Author.Tests.{eq-eqb, eqb-true}
-use Rattle.deck.specs.Lists.{countFrom, each}
+use Rattle.deck.specs.Lists.{each}
 use Rattle.deck.specs.Assignments.{sumOf}
 use Rattle.deck.specs.Calls.{taskList}
 use Rattle.meaning.specs.Meaning.{_at_, Assignment, Unbarred, StrictlyBefore, Less}
 use Rattle.meaning.proofs.Tests.{Says, is-true}
-use Rattle.meaning.proofs.Lists.{mem-countFrom, countFrom-mem, each-mem}
+use Rattle.meaning.proofs.Lists.{countFrom-mem, each-mem}
 use Rattle.prices.proofs.First.{less-trans}
 use Rattle.prices.proofs.Growth.{lower}
 use Rattle.partition.specs.Parts.{Slot}
@@ -24,8 +24,8 @@ use Rattle.assignment.specs.Answers.{candidateFor}
 use Rattle.assignment.proofs.Orders.{says-earlier}
 use Rattle.records.specs.Record.{fieldsAt, rowIn, flagIn, slotTasksIn, bytes}
 use Rattle.records.proofs.Words.{bytes-same}
-use Rattle.roots.specs.Slots.{rootsAt, slotOf, slotHere, rootSlots, slotsAt, SlotsHold}
-use Rattle.roots.specs.Choices.{slotBefore, firstOf, betterOf, overSlots, overRoots, Live, ChosenOf}
+use Rattle.roots.specs.Slots.{rootsAt, slotOf, slotHere, rootSlots, slotsAt, PartsHold}
+use Rattle.roots.specs.Choices.{slotBefore, firstOf, betterOf, overSlots, Live, ChosenOf}
 use Rattle.roots.specs.declared.Choice.{Choice}
 use Rattle.roots.specs.declared.Choice.the-variants.{Nothing, Slot as Chosen}
 
@@ -78,7 +78,7 @@ live-slot m work latest n j v =
     (each-mem (slotHere m (fieldsAt work n)) (countFrom-mem (rowIn (fieldsAt work n)) (m - rowIn (fieldsAt work n)) j (v .low) (omega (arith, v .low, v .high)))
     (rw (eq-eqb (flagIn (fieldsAt work n) j) 1 (v .flag)) (here refl)))
 
-module _ (m : ℕ) (table work : List ℕ) (latest : ℕ) (rest : List (List ℕ)) (small : m ≤ 12) (H : SlotsHold m table work latest rest) where
+module _ (m : ℕ) (table work : List ℕ) (latest : ℕ) (rest : List (List ℕ)) (small : m ≤ 12) (H : PartsHold m table work latest rest) where
   pub live-unbarred : (n j : ℕ) → Live m work latest n j → Unbarred m table (take m (slotTasksIn (fieldsAt work n) j))
   live-unbarred n j v =
       subst (Candidate m table (s .part)) (H .holds .right s (live-slot m work latest n j v)) (candidate-meant m table (s .part)) .0
@@ -106,7 +106,7 @@ module _ (m : ℕ) (work : List ℕ) (latest : ℕ) where
     s = slotOf m (fieldsAt work n) j
 
     -- against the chosen slot, in the order of the assignments
-    first-of-two : (p q : ℕ) → Live m work latest n j → ChosenOf m work latest seen (Chosen p q) → (r : Bool) → slotBefore (fieldsAt work n) j (fieldsAt work p) q ≡ r
+    pub first-of-two : (p q : ℕ) → Live m work latest n j → ChosenOf m work latest seen (Chosen p q) → (r : Bool) → slotBefore (fieldsAt work n) j (fieldsAt work p) q ≡ r
         → ChosenOf m work latest (seen ++ s ∷ []) (cond r (Chosen n j) (Chosen p q))
     first-of-two p q live h true e = (
       live,
@@ -142,27 +142,10 @@ module _ (m : ℕ) (work : List ℕ) (latest : ℕ) where
         go true e Nothing h = (live e, λ table rest small H. rw h (λ t i. inl (ap (λ (x : Slot). x .first) (only i))))
         go true e (Chosen p q) h = first-of-two p q (live e) h (slotBefore (fieldsAt work n) j (fieldsAt work p) q) refl
 
-  over-slots : (n : ℕ) → Mem n (rootsAt work latest) → (js : List ℕ) (seen : List Slot) (b : Choice) → ((j : ℕ) → Mem j js → (rowIn (fieldsAt work n) ≤ j) × (j < m))
+  pub over-slots : (n : ℕ) → Mem n (rootsAt work latest) → (js : List ℕ) (seen : List Slot) (b : Choice) → ((j : ℕ) → Mem j js → (rowIn (fieldsAt work n) ≤ j) × (j < m))
       → ChosenOf m work latest seen b → ChosenOf m work latest (seen ++ each (slotHere m (fieldsAt work n)) js) (overSlots work n js b)
   over-slots n root [] seen b g h = subst (λ (l : List Slot). ChosenOf m work latest l b) (sym (append-nil seen)) h
   over-slots n root (j ∷ js) seen b g h =
       let k = g j (here refl) in
       subst (λ (l : List Slot). ChosenOf m work latest l (overSlots work n js (betterOf work n j b))) (append-assoc seen (slotHere m (fieldsAt work n) j) (each (slotHere m (fieldsAt work n)) js))
       (over-slots n root js (seen ++ slotHere m (fieldsAt work n) j) (betterOf work n j b) (λ i x. g i (there x)) (one-more n j seen root (k .0) (k .1) b h))
-
-  over-roots : (ns : List ℕ) (seen : List Slot) (b : Choice) → ((n : ℕ) → Mem n ns → Mem n (rootsAt work latest))
-      → ChosenOf m work latest seen b → ChosenOf m work latest (seen ++ each (λ n. rootSlots m (fieldsAt work n)) ns) (overRoots m work ns b)
-  unfolding rootSlots
-  over-roots [] seen b g h = subst (λ (l : List Slot). ChosenOf m work latest l b) (sym (append-nil seen)) h
-  over-roots (n ∷ ns) seen b g h =
-      let k : ℕ = rowIn (fieldsAt work n) in
-      let new : List Slot = each (slotHere m (fieldsAt work n)) (countFrom k (m - k)) in
-      let c : Choice = overSlots work n (countFrom k (m - k)) b in
-      subst (λ (l : List Slot). ChosenOf m work latest l (overRoots m work ns c)) (append-assoc seen new (each (λ n. rootSlots m (fieldsAt work n)) ns))
-      (over-roots ns (seen ++ new) c (λ i x. g i (there x))
-      (over-slots n (g n (here refl)) (countFrom k (m - k)) seen b (λ j x. let y = mem-countFrom k (m - k) x in (y .0, omega (arith, y .0, y .1))) h))
-
-  -- THE CHOICE
-  pub chosen-right : (b : Choice) → b ≡ overRoots m work (rootsAt work latest) Nothing → ChosenOf m work latest (slotsAt m work latest) b
-  unfolding slotsAt
-  chosen-right b e = rw e (over-roots (rootsAt work latest) [] Nothing (λ n i. i) refl)

@@ -1,8 +1,13 @@
 pub mod Chains
 pub mod Choosing
 pub mod Chosen
+pub mod Codes
+pub mod Playing
+pub mod Climbing
+pub mod Winner
 pub mod Parts
 pub mod Filling
 pub mod Taken
 pub mod Made
 pub mod Begun
+pub mod Entering

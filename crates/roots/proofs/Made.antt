@@ -24,8 +24,9 @@ use Rattle.partition.proofs.Splits.{none-closed}
 use Rattle.partition.proofs.Murty.{next-in-order, none-remains, first-in-order}
 use Rattle.records.specs.Record.{fieldsAt, tasksIn, rowIn, closedIn, flagIn, slotTasksIn, olderIn, bytes, rootFields}
 use Rattle.records.proofs.Words.{bytes-same}
-use Rattle.roots.specs.Slots.{rootsFrom, rootsAt, slotOf, slotHere, rootSlots, slotsAt, Older, SlotFor, PartKept, Rooted, SlotsHold, RootMade}
-use Rattle.roots.specs.Choices.{Live, ChosenOf, partOf, Cleared, NextTaken}
+use Rattle.roots.specs.Slots.{rootsFrom, rootsAt, slotOf, slotHere, rootSlots, slotsAt, Older, SlotFor, PartKept, Rooted, PartsHold, RootMade}
+use Rattle.roots.specs.Choices.{Live, ChosenOf, partOf, Cleared}
+use Rattle.roots.specs.Tournament.{SlotsHold, NextTaken}
 use Rattle.roots.specs.declared.Choice.the-variants.{Nothing, Slot as Chosen}
 use Rattle.roots.specs.declared.RootPart.{RootPart}
 use Rattle.roots.proofs.Chains.{no-roots, roots-fuel, roots-below, roots-same}
@@ -120,7 +121,7 @@ module _ (m : ℕ) (table before after : List ℕ) (made : ℕ) (tasks : List �
         let l = roots-below (fieldsAt before) older older falls k i in
         u .same .records k (λ e. omega arith)
 
-    roots-made : rootsAt after (made + 1) ≡ made ∷ rootsAt before older
+    pub roots-made : rootsAt after (made + 1) ≡ made ∷ rootsAt before older
     unfolding rootsFrom
     roots-made =
         let e : made + 1 ≡ suc made = omega arith in
@@ -152,7 +153,7 @@ module _ (m : ℕ) (table before after : List ℕ) (made : ℕ) (tasks : List �
               subst (λ (b : List ℕ). SlotFor m table new j (some b)) (sym e) s
 
       pub made-holds : (rest : List (List ℕ)) → ((n : ℕ) → Mem n (rootsAt before older) → Rooted m table n (fieldsAt before n))
-          → Holds m table (slotsAt m before older ++ slotsOf m table (take m tasks) row closed) rest → SlotsHold m table after (made + 1) rest
+          → Holds m table (slotsAt m before older ++ slotsOf m table (take m tasks) row closed) rest → PartsHold m table after (made + 1) rest
       made-holds rest old H =
           record {
             roots = λ n i. ⊎-elim
@@ -163,14 +164,14 @@ module _ (m : ℕ) (table before after : List ℕ) (made : ℕ) (tasks : List �
 
 -- THE NEXT ROOT: the chosen slot is cleared, and the root of its assignment is made
 module _ (m : ℕ) (table before mid : List ℕ) (latest made n j : ℕ) (rest : List (List ℕ)) (small : m ≤ 12) (size : 512 * latest ≤ length before) (le : latest ≤ made)
-    (H : SlotsHold m table before latest rest) (chosen : ChosenOf m before latest (slotsAt m before latest) (Chosen n j)) (cleared : Cleared before mid n j) where
+    (H : PartsHold m table before latest rest) (chosen : ChosenOf m before latest (slotsAt m before latest) (Chosen n j)) (cleared : Cleared before mid n j) where
   abbrev fs : List (List ℕ)
   fs = fieldsAt before n
 
   abbrev s : Slot
   s = slotOf m fs j
 
-  live : Live m before latest n j
+  pub live : Live m before latest n j
   live = chosen .0
 
   kept : PartKept m (tasksIn fs) (closedIn fs)
@@ -210,13 +211,15 @@ module _ (m : ℕ) (table before mid : List ℕ) (latest made n j : ℕ) (rest :
   pub part-kept : PartKept m (partOf fs j .tasks) (partOf fs j .closed)
   part-kept = rw (part-tasks, part-closed) (list-kept m (s .first) (s .part .closed) small (live-unbarred m table before latest rest small H n j live .0) shut)
 
-  left-rooted : (k : ℕ) → Mem k (rootsAt mid latest) → Rooted m table k (fieldsAt mid k)
+  pub left-rooted : (k : ℕ) → Mem k (rootsAt mid latest) → Rooted m table k (fieldsAt mid k)
   left-rooted k i =
       taken-rooted m before mid latest n j small falls size live cleared table k
       (H .roots k (subst (Mem k) (taken-roots m before mid latest n j small falls size live cleared) i))
 
-  pub next-made : (after : List ℕ) → RootMade m table mid after made (partOf fs j .tasks) (partOf fs j .row) (partOf fs j .closed) latest → NextTaken m table after (made + 1) rest (partOf fs j .tasks)
-  next-made after u =
+  -- final is what the workspace is after the root has entered the tournament
+  next-made : (after final : List ℕ) → ((others : List (List ℕ)) → PartsHold m table after (made + 1) others → SlotsHold m table final (made + 1) others)
+      → RootMade m table mid after made (partOf fs j .tasks) (partOf fs j .row) (partOf fs j .closed) latest → NextTaken m table final (made + 1) rest (partOf fs j .tasks)
+  next-made after final entered u =
       let a = live-unbarred m table before latest rest small H n j live in
       let w = taken-slots m before mid latest n j small falls size live cleared in
       let next = next-in-order m small table (w .left) s (w .right) (subst (λ (l : List Slot). Best m table l s) (w .whole) (chosen .1 table rest small H)) rest
@@ -228,10 +231,10 @@ module _ (m : ℕ) (table before mid : List ℕ) (latest made n j : ℕ) (rest :
         first = next .1;
         unbarred = a;
         list = part-tasks;
-        hold =
-            made-holds m table mid after made (partOf fs j .tasks) j (partOf fs j .closed) latest u (λ k i. left-rooted k i .older) le
+        hold = entered (next .0)
+            (made-holds m table mid after made (partOf fs j .tasks) j (partOf fs j .closed) latest u (λ k i. left-rooted k i .older) le
             part-kept (next .0) left-rooted
-            (rw (e, part-closed, w .rest) (next .2));
+            (rw (e, part-closed, w .rest) (next .2)));
       }
 
   -- with the part as it was handed back
@@ -242,11 +245,12 @@ module _ (m : ℕ) (table before mid : List ℕ) (latest made n j : ℕ) (rest :
     pub handed-kept : PartKept m (p .tasks) (p .closed)
     handed-kept = subst (λ (q : RootPart). PartKept m (q .tasks) (q .closed)) (sym e) part-kept
 
-    pub next-handed : (after : List ℕ) → RootMade m table mid after made (p .tasks) (p .row) (p .closed) latest → NextTaken m table after (made + 1) rest (p .tasks)
-    next-handed after = subst (λ (q : RootPart). RootMade m table mid after made (q .tasks) (q .row) (q .closed) latest → NextTaken m table after (made + 1) rest (q .tasks)) (sym e) (next-made after)
+    pub next-handed : (after final : List ℕ) → ((others : List (List ℕ)) → PartsHold m table after (made + 1) others → SlotsHold m table final (made + 1) others)
+        → RootMade m table mid after made (p .tasks) (p .row) (p .closed) latest → NextTaken m table final (made + 1) rest (p .tasks)
+    next-handed after final entered = subst (λ (q : RootPart). RootMade m table mid after made (q .tasks) (q .row) (q .closed) latest → NextTaken m table final (made + 1) rest (q .tasks)) (sym e) (next-made after final entered)
 
 -- a chosen slot is in the workspace
-pub chosen-inside : (m : ℕ) (table work : List ℕ) (latest n j : ℕ) (rest : List (List ℕ)) → m ≤ 12 → SlotsHold m table work latest rest → ChosenOf m work latest (slotsAt m work latest) (Chosen n j)
+pub chosen-inside : (m : ℕ) (table work : List ℕ) (latest n j : ℕ) (rest : List (List ℕ)) → m ≤ 12 → PartsHold m table work latest rest → ChosenOf m work latest (slotsAt m work latest) (Chosen n j)
     → (n < latest) × (j < 12) × (tasksIn (fieldsAt work n) at j < 12)
 chosen-inside m table work latest n j rest small H chosen =
     let v = chosen .0 in (
@@ -260,9 +264,9 @@ unfolding slotsAt
 no-slots m work = rw (no-roots (fieldsAt work) 0)
 
 -- THE FIRST ROOT
-pub first-made : (m : ℕ) (table before after a : List ℕ) → 0 < m → m ≤ 12 → leastAssignment m table ≡ some a → RootMade m table before after 0 (taskList a) 0 noneClosed 0
-    → NextTaken m table after 1 (assignmentsInOrder m table) (taskList a)
-first-made m table before after a pos small e u =
+pub first-made : (m : ℕ) (table before after final a : List ℕ) → 0 < m → m ≤ 12 → leastAssignment m table ≡ some a → ((others : List (List ℕ)) → PartsHold m table after 1 others → SlotsHold m table final 1 others)
+    → RootMade m table before after 0 (taskList a) 0 noneClosed 0 → NextTaken m table final 1 (assignmentsInOrder m table) (taskList a)
+first-made m table before after final a pos small e entered u =
     let f = first-in-order m small table pos a e in
     let h = least-assignment-meant m table a e .0 in
     record {
@@ -271,16 +275,16 @@ first-made m table before after a pos small e u =
       first = f .1;
       unbarred = h;
       list = refl;
-      hold =
-          made-holds m table before after 0 (taskList a) 0 noneClosed 0 u (λ n i. absurd (not-nil (rw (no-roots (fieldsAt before) 0) at i))) (omega arith) (list-kept m a noneClosed small (h .0) (λ i. omega (arith, none-closed i))) (f .0) (λ n i. absurd (not-nil (rw (no-roots (fieldsAt before) 0) at i)))
-          (rw (take-list m a (h .0 .as-many), no-slots m before) (f .2));
+      hold = entered (f .0)
+          (made-holds m table before after 0 (taskList a) 0 noneClosed 0 u (λ n i. absurd (not-nil (rw (no-roots (fieldsAt before) 0) at i))) (omega arith) (list-kept m a noneClosed small (h .0) (λ i. omega (arith, none-closed i))) (f .0) (λ n i. absurd (not-nil (rw (no-roots (fieldsAt before) 0) at i)))
+          (rw (take-list m a (h .0 .as-many), no-slots m before) (f .2)));
     }
 
 -- WHAT THE CALLS ASK AND SAY, from the invariant
 module _ (m : ℕ) (table work : List ℕ) (latest : ℕ) (rest : List (List ℕ)) (H : SlotsHold m table work latest rest) where
   pub slots-older : Older work latest
-  slots-older n i = H .roots n i .older
+  slots-older n i = H .parts .roots n i .older
 
   -- without a slot none remains
   pub nothing-left : m ≤ 12 → ChosenOf m work latest (slotsAt m work latest) Nothing → rest ≡ []
-  nothing-left small e = none-remains m small table rest (subst (λ (l : List Slot). Holds m table l rest) e (H .holds))
+  nothing-left small e = none-remains m small table rest (subst (λ (l : List Slot). Holds m table l rest) e (H .parts .holds))

@@ -7,15 +7,17 @@ use mathlib.Core.Option.{some}
 use native.Mathlib.Omega.{arith}
 use native.Mathlib.Decide.{ℕ-discrete}
 use lib.ListN.{getD, set, take, length, length-set}
-use lib.Seq.{getD-set-same}
+use lib.Seq.{getD-set-same, getD-set-other}
 use borrow.Author.Tests.{eq-eqb, ne-eqb}
 use Rattle.deck.specs.Lists.{countFrom, each}
 use Rattle.meaning.proofs.Lists.{countFrom-mem, Sorted, sorted-countFrom}
-use Rattle.records.specs.Record.{fieldsAt, tasksIn, rowIn, closedIn, slotIn, flagIn, slotTasksIn, olderIn}
+use Rattle.records.specs.Cut.{part}
+use Rattle.records.specs.Record.{fieldsAt, tasksIn, rowIn, closedIn, slotIn, flagIn, sumIn, slotTasksIn, olderIn}
 use Rattle.roots.specs.Slots.{rootsAt, slotOf, slotHere, rootSlots, slotsAt, Older, SlotFor, Rooted}
 use Rattle.roots.specs.Choices.{Live, Cleared}
 use Rattle.roots.proofs.Chains.{roots-below, roots-fall, roots-same}
 use Rattle.roots.proofs.Filling.{fields-long, slots-long, slot-same, slot-other, field-other, slot-long}
+use Rattle.roots.proofs.Playing.{SameOrder, order-slots}
 
 -- A LIST WITHOUT ONE OF ITS ELEMENTS
 pub record Without {A : Type 0} (all others : List A) (s : A) : Type 0 where
@@ -123,6 +125,34 @@ module _ (m : ℕ) (work after : List ℕ) (latest n j : ℕ) (small : m ≤ 12)
       go : (k : ℕ) → Dec (k ≡ n) → olderIn (fieldsAt after k) ≡ olderIn (fieldsAt work k)
       go k (yes e) = rw e (ap (λ (l : List ℕ). getD l 0 0) (same-field 8 (λ z. omega arith)))
       go k (no e) = ap olderIn (u .records k e)
+
+  -- no word of the tournament is written, and of the slots neither a sum nor a task is
+  pub taken-queue : (k : ℕ) → getD (fieldsAt after k) 5 [] ≡ getD (fieldsAt work k) 5 []
+  taken-queue k = go (ℕ-discrete k n)
+    where
+      go : Dec (k ≡ n) → getD (fieldsAt after k) 5 [] ≡ getD (fieldsAt work k) 5 []
+      go (yes e) = rw e (same-field 5 (λ z. omega arith))
+      go (no e) = ap (λ (l : List (List ℕ)). getD l 5 []) (u .records k e)
+
+  slot-order : (i : ℕ) → Dec (i ≡ j) → (sumIn gs i ≡ sumIn fs i) × (slotTasksIn gs i ≡ slotTasksIn fs i)
+  slot-order i (yes e) =
+      let s : slotIn gs j ≡ ys = ap (λ (l : List (List ℕ)). slotIn l j) (u .here) ∙ slot-same fs (fields-long work n) (slots-long work n room) j low ys words in
+      rw e (
+        ap (λ (l : List ℕ). getD l 1 0) s ∙ getD-set-other (slotIn fs j) 0 1 0 0 (λ z. omega arith),
+        ap (λ (l : List ℕ). part 2 12 l) s ∙ behind (slotIn fs j),
+      )
+    where
+      behind : (l : List ℕ) → part 2 12 (set l 0 0) ≡ part 2 12 l
+      behind [] = refl
+      behind (x ∷ l) = refl
+  slot-order i (no e) = (ap (λ (l : List ℕ). getD l 1 0) (other-slot i e), ap (λ (l : List ℕ). part 2 12 l) (other-slot i e))
+
+  pub taken-order : (k : ℕ) → SameOrder (fieldsAt after k) (fieldsAt work k)
+  taken-order k = go (ℕ-discrete k n)
+    where
+      go : Dec (k ≡ n) → SameOrder (fieldsAt after k) (fieldsAt work k)
+      go (yes e) = rw e (record { sums = λ i l. slot-order i (ℕ-discrete i j) .0; tasks = λ i l. slot-order i (ℕ-discrete i j) .1 })
+      go (no e) = order-slots (fieldsAt after k) (fieldsAt work k) (ap (λ (l : List (List ℕ)). getD l 6 []) (u .records k e))
 
   -- the others remain
   pub taken-slots : Without (slotsAt m work latest) (slotsAt m after latest) (slotOf m fs j)

@@ -10,16 +10,21 @@ use Rattle.records.specs.Record.{fieldsAt, keyAt}
 use Rattle.nodes.specs.Stored.{RootSoFar}
 use Rattle.nodes.proofs.Kept.{Alike}
 
--- the record of root `made` is begun: none of its paths is written; of the other records only slots are, and no key
+-- the record of root `made` is begun: none of its paths is written; of the other records only slots and words of the tournament are, and no key
 pub record RootBegun (before after : List ℕ) (made : ℕ) (tasks : List ℕ) : Type 0 where
   pub root : (d : Sheet) (a : List ℕ) → length a ≡ d .count → ((k : ℕ) → a at k < 256) → tasks ≡ taskList a → RootSoFar d after made a 0
   pub alike : (k : ℕ) → (k ≡ made → ⊥) → Alike (fieldsAt after k) (fieldsAt before k)
   pub keys : (limit k : ℕ) → made < limit → keyAt limit after k ≡ keyAt limit before k
 
 -- the fields of two records that slots are read from are the same
-pub record SlotsAlike (fs gs : List (List ℕ)) : Type 0 where
+pub record PartsAlike (fs gs : List (List ℕ)) : Type 0 where
   pub tasks : getD fs 2 [] ≡ getD gs 2 []
   pub row : getD fs 4 [] ≡ getD gs 4 []
   pub slots : getD fs 6 [] ≡ getD gs 6 []
   pub older : getD fs 8 [] ≡ getD gs 8 []
   pub closed : getD fs 9 [] ≡ getD gs 9 []
+
+-- and the word of the tournament
+pub record SlotsAlike (fs gs : List (List ℕ)) : Type 0 where
+  pub parts : PartsAlike fs gs
+  pub queue : getD fs 5 [] ≡ getD gs 5 []

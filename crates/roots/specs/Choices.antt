@@ -1,18 +1,15 @@
--- The choice of the slot whose assignment comes first, and what it is to make its root. Assumes nothing.
-use Prim.Native.Nat.{ℕ, _+_, _*_, _-_, _<_, _≤_}
+-- The choice of the slot whose assignment comes first, and what its root is made of. Assumes nothing.
+use Prim.Native.Nat.{ℕ, _+_, _*_, _<_, _≤_}
 use mathlib.Core.Path.{_≡_}
 use mathlib.Core.Bool.{Bool, true, false, cond}
 use mathlib.Core.List.{List, [], _∷_, List·Memᴰ as Mem}
 use lib.ListN.{set}
 use lib.Dec.{eqb, ltb}
-use Rattle.deck.specs.Lists.{countFrom}
-use Rattle.deck.specs.Calls.{taskList}
-use Rattle.meaning.specs.Meaning.{Unbarred}
 use Rattle.partition.specs.Parts.{slotPart, Slot, Best}
 use Rattle.assignment.specs.Answers.{lessFrom}
 use Rattle.assignment.specs.declared.order.Candidate.{Candidate}
 use Rattle.records.specs.Record.{fieldsAt, tasksIn, rowIn, closedIn, slotIn, flagIn, sumIn, slotTasksIn, bytes, withSlot, Wrote}
-use Rattle.roots.specs.Slots.{rootsAt, slotOf, SlotsHold}
+use Rattle.roots.specs.Slots.{rootsAt, slotOf, PartsHold}
 use Rattle.roots.specs.declared.Choice.{Choice}
 use Rattle.roots.specs.declared.Choice.the-variants.{Nothing, Slot as Chosen}
 use Rattle.roots.specs.declared.RootPart.{RootPart}
@@ -37,11 +34,6 @@ abbrev pub overSlots : List ℕ → ℕ → List ℕ → Choice → Choice
 overSlots work n [] b = b
 overSlots work n (j ∷ js) b = overSlots work n js (betterOf work n j b)
 
--- the choice after some roots
-abbrev pub overRoots : ℕ → List ℕ → List ℕ → Choice → Choice
-overRoots m work [] b = b
-overRoots m work (n ∷ ns) b = overRoots m work ns (overSlots work n (countFrom (rowIn (fieldsAt work n)) (m - rowIn (fieldsAt work n))) b)
-
 -- the record of a chosen slot is in the workspace
 abbrev pub Inside : ℕ → Choice → Type 0
 Inside size Nothing = Unit {0}
@@ -59,7 +51,7 @@ abbrev pub ChosenOf : ℕ → List ℕ → ℕ → List Slot → Choice → Type
 ChosenOf m work latest slots Nothing = slots ≡ []
 ChosenOf m work latest slots (Chosen n j) =
     Live m work latest n j
-    × ((table : List ℕ) (rest : List (List ℕ)) → m ≤ 12 → SlotsHold m table work latest rest → Best m table slots (slotOf m (fieldsAt work n) j))
+    × ((table : List ℕ) (rest : List (List ℕ)) → m ≤ 12 → PartsHold m table work latest rest → Best m table slots (slotOf m (fieldsAt work n) j))
 
 -- the part and the first assignment of slot j of a root with the fields fs
 abbrev pub partOf : List (List ℕ) → ℕ → RootPart
@@ -77,12 +69,3 @@ Cleared before after n j = Wrote before after n (withSlot (fieldsAt before n) j 
 -- the words of a slot for a candidate: without one the flag is cleared
 abbrev pub slotWords : Candidate → List ℕ → List ℕ
 slotWords c old = cond (c .found) (1 ∷ c .sum ∷ c .tasks) (set old 0 0)
-
--- the next assignment, whose list of 12 is tasks, is taken from those that remain: the slots after it hold the others
-pub record NextTaken (m : ℕ) (table after : List ℕ) (latest : ℕ) (rest : List (List ℕ)) (tasks : List ℕ) : Type 0 where
-  pub next : List ℕ
-  pub others : List (List ℕ)
-  pub first : rest ≡ next ∷ others
-  pub unbarred : Unbarred m table next
-  pub list : tasks ≡ taskList next
-  pub hold : SlotsHold m table after latest others

@@ -1,3 +1,4 @@
 pub mod Slots
 pub mod Choices
+pub mod Tournament
 pub mod Begun

@@ -61,8 +61,8 @@ pub record Rooted (m : ℕ) (table : List ℕ) (n : ℕ) (fs : List (List ℕ)) 
   pub part : PartKept m (tasksIn fs) (closedIn fs)
   pub slots : (j : ℕ) → rowIn fs ≤ j → j < m → flagIn fs j ≡ 1 → SlotFor m table fs j (some (take m (slotTasksIn fs j)))
 
--- THE INVARIANT: the slots of the roots hold the assignments that remain
-pub record SlotsHold (m : ℕ) (table : List ℕ) (work : List ℕ) (latest : ℕ) (rest : List (List ℕ)) : Type 0 where
+-- the slots of the roots hold the assignments that remain
+pub record PartsHold (m : ℕ) (table : List ℕ) (work : List ℕ) (latest : ℕ) (rest : List (List ℕ)) : Type 0 where
   pub roots : (n : ℕ) → Mem n (rootsAt work latest) → Rooted m table n (fieldsAt work n)
   pub holds : Holds m table (slotsAt m work latest) rest
 

@@ -13,8 +13,9 @@ ghost use Rattle.deck.specs.Calls.{taskList};
 ghost use Rattle.meaning.specs.Meaning.{_at_};
 ghost use Rattle.prices.specs.Square.{copied};
 ghost use Rattle.records.specs.Record.{fieldsAt, tasksIn, rowIn, closedIn, slotIn, slotTasksIn, bytes, withSlot, Wrote};
-ghost use Rattle.roots.specs.Slots.{slotsAt, Older, PartKept, SlotsHold, Filled, RootMade};
-ghost use Rattle.roots.specs.Choices.{slotBefore, betterOf, overSlots, Inside, ChosenOf, partOf, Cleared, slotWords, NextTaken};
+ghost use Rattle.roots.specs.Slots.{slotsAt, Older, PartKept, Filled, RootMade};
+ghost use Rattle.roots.specs.Choices.{slotBefore, firstOf, betterOf, overSlots, Inside, ChosenOf, partOf, Cleared, slotWords};
+ghost use Rattle.roots.specs.Tournament.{codeOf, choiceOf, slotCode, winBelow, ownAt, firstChoice, firstHere, Below, Of, Named, PlayedBut, Played, Tournament, WordPut, Climbed, Refreshed, Emptied, Entered, SlotsHold, NextTaken};
 ghost use Rattle.roots.specs.Begun.{RootBegun};
 
 // The slot to take next.
@@ -66,14 +67,11 @@ fn slot_before(work: &[u32], n: usize, j: usize, p: usize, q: usize) -> bool
     order::comes_before(listed(work, n, j), listed(work, p, q))
 }
 
-// The first of a choice and slot j of root n.
-fn better(work: &[u32], n: usize, j: usize, b: Choice) -> Choice
+// The first of slot j of root n and a choice.
+fn first_of(work: &[u32], n: usize, j: usize, b: Choice) -> Choice
     requires { ⌜ (512 * n + 512 ≤ length (now work)) × (j < 12) × Inside (length (now work)) b ⌝ }
-    ensures { λ r. ⌜ (r ≡ betterOf (now (work .entry)) n j b) × Inside (length (now (work .entry))) r ⌝ }
+    ensures { λ r. ⌜ (r ≡ firstOf (now (work .entry)) n j b) × Inside (length (now (work .entry))) r ⌝ }
 {
-    if !records::slot_flag(work, n, j) {
-        return b;
-    }
     match b {
         Choice::Nothing => Choice::Slot { n: n, j: j },
         Choice::Slot { n: p, j: q } => {
@@ -84,6 +82,17 @@ fn better(work: &[u32], n: usize, j: usize, b: Choice) -> Choice
             }
         }
     }
+}
+
+// The first of a choice and slot j of root n, where it is not empty.
+fn better(work: &[u32], n: usize, j: usize, b: Choice) -> Choice
+    requires { ⌜ (512 * n + 512 ≤ length (now work)) × (j < 12) × Inside (length (now work)) b ⌝ }
+    ensures { λ r. ⌜ (r ≡ betterOf (now (work .entry)) n j b) × Inside (length (now (work .entry))) r ⌝ }
+{
+    if !records::slot_flag(work, n, j) {
+        return b;
+    }
+    first_of(work, n, j, b)
 }
 
 // The first of a choice and the slots of root n.
@@ -99,18 +108,158 @@ fn best_in(work: &[u32], m: usize, n: usize, b: Choice) -> Choice
     best
 }
 
+// THE TOURNAMENT
+
+// A choice as a number.
+fn code_of(b: Choice) -> usize
+    requires { ⌜ Below 4097 b ⌝ }
+    ensures { λ r. ⌜ (r ≡ codeOf b) × (r < 65560) ⌝ }
+{
+    match b {
+        Choice::Nothing => 0,
+        Choice::Slot { n, j } => 16 * n + j + 1,
+    }
+}
+
+fn choice_of(c: usize) -> Choice
+    ensures { λ r. ⌜ r ≡ choiceOf c ⌝ }
+{
+    if c == 0 {
+        return Choice::Nothing;
+    }
+    Choice::Slot {
+        n: (c - 1) / 16,
+        j: (c - 1) % 16,
+    }
+}
+
+// A choice among the slots of one number, as a number.
+fn slot_code(b: Choice) -> usize
+    requires { ⌜ Below 4097 b ⌝ }
+    ensures { λ r. ⌜ (r ≡ slotCode b) × (r < 16) ⌝ }
+{
+    match b {
+        Choice::Nothing => 0,
+        Choice::Slot { n: _, j } => j + 1,
+    }
+}
+
+// The choice among the slots of number k.
+fn own_of(work: &[u32], k: usize) -> Choice
+    requires { ⌜ 512 * k + 512 ≤ length (now work) ⌝ }
+    ensures { λ r. ⌜ r ≡ ownAt (now (work .entry)) k ⌝ }
+{
+    let own = records::queue_of(work, k) % 16;
+    if own == 0 {
+        return Choice::Nothing;
+    }
+    Choice::Slot { n: k, j: own - 1 }
+}
+
+// The choice among the slots of number k and those under it.
+fn win_of(work: &[u32], latest: usize, k: usize) -> Choice
+    requires { ⌜ 512 * latest ≤ length (now work) ⌝ }
+    ensures { λ r. ⌜ r ≡ winBelow (now (work .entry)) latest k ⌝ }
+{
+    if latest <= k {
+        return Choice::Nothing;
+    }
+    choice_of(records::queue_of(work, k) / 16)
+}
+
+// The first of two choices.
+fn first_choice(work: &[u32], a: Choice, b: Choice) -> Choice
+    requires { ⌜ Inside (length (now work)) a × Inside (length (now work)) b ⌝ }
+    ensures { λ r. ⌜ r ≡ firstChoice (now (work .entry)) a b ⌝ }
+{
+    match a {
+        Choice::Nothing => b,
+        Choice::Slot { n, j } => first_of(work, n, j, b),
+    }
+}
+
+// The first of the choices at number k: its own and those of the two numbers under it.
+fn first_here(work: &[u32], latest: usize, k: usize) -> Choice
+    requires { ⌜ (512 * latest ≤ length (now work)) × (k < latest) × (latest ≤ 4097) × Named (now work) latest ⌝ }
+    ensures { λ r. ⌜ (r ≡ firstHere (now (work .entry)) latest k) × Below 4097 r ⌝ }
+{
+    let own = own_of(work, k);
+    let left = win_of(work, latest, 2 * k + 1);
+    let right = win_of(work, latest, 2 * k + 2);
+    let first = first_choice(work, left, own);
+    first_choice(work, right, first)
+}
+
+// Puts the word of number k anew.
+fn put_word(work: &mut [u32], k: usize, win: Choice, own: Choice)
+    requires { ⌜ (512 * k + 512 ≤ length (now work)) × (k < 4097) × Below 4097 win × Of k own ⌝ }
+    ensures { λ _. ⌜ WordPut (now (work .entry)) (now (work .exit)) k win own ⌝ }
+{
+    let a = code_of(win);
+    let b = slot_code(own);
+    records::set_queue(work, k, 16 * a + b);
+}
+
+// Stores the first of the choices at number k.
+fn settle(work: &mut [u32], latest: usize, k: usize)
+    requires { ⌜ (512 * latest ≤ length (now work)) × (k < latest) × (latest ≤ 4097) × Named (now work) latest ⌝ }
+    ensures { λ _. ⌜ WordPut (now (work .entry)) (now (work .exit)) k (firstHere (now (work .entry)) latest k) (ownAt (now (work .entry)) k) ⌝ }
+{
+    let first = first_here(work, latest, k);
+    let own = own_of(work, k);
+    put_word(work, k, first, own);
+}
+
+// Plays the tournament again from number n up.
+fn climb(work: &mut [u32], latest: usize, n: usize)
+    requires { ⌜ (512 * latest ≤ length (now work)) × (n < latest) × (latest ≤ 4097) × PlayedBut (now work) latest n ⌝ }
+    ensures { λ _. ⌜ Climbed (now (work .entry)) (now (work .exit)) latest ⌝ }
+{
+    let mut at = n;
+    while at != 0 {
+        settle(work, latest, at);
+        at = (at - 1) / 2;
+    }
+    settle(work, latest, 0);
+}
+
+// Finds the own choice of number n anew, and plays the tournament again.
+fn refresh(work: &mut [u32], m: usize, latest: usize, n: usize)
+    requires { ⌜ (m ≤ 12) × (512 * latest ≤ length (now work)) × (n < latest) × (latest ≤ 4097) × Played (now work) latest ⌝ }
+    ensures { λ _. ⌜ Refreshed m (now (work .entry)) (now (work .exit)) latest n ⌝ }
+{
+    let own = best_in(work, m, n, Choice::Nothing);
+    let win = win_of(work, latest, n);
+    put_word(work, n, win, own);
+    climb(work, latest, n);
+}
+
+// The numbers from `from` to `to` have no choice.
+fn empty(work: &mut [u32], from: usize, to: usize)
+    requires { ⌜ (from ≤ to) × (512 * to ≤ length (now work)) × (to ≤ 4097) ⌝ }
+    ensures { λ _. ⌜ Emptied (now (work .entry)) (now (work .exit)) from to ⌝ }
+{
+    for k in from..to {
+        put_word(work, k, Choice::Nothing, Choice::Nothing);
+    }
+}
+
+// Root `made` enters the tournament of the numbers below `latest`. Slots of root n were taken.
+fn enter(work: &mut [u32], m: usize, latest: usize, made: usize, n: usize)
+    requires { ⌜ (m ≤ 12) × (latest ≤ made) × (made ≤ 4096) × (n ≤ made) × (512 * made + 512 ≤ length (now work)) × Played (now work) latest ⌝ }
+    ensures { λ _. ⌜ Entered m (now (work .entry)) (now (work .exit)) latest made n ⌝ }
+{
+    empty(work, latest, made + 1);
+    refresh(work, m, made + 1, n);
+    refresh(work, m, made + 1, made);
+}
+
 // The slot whose assignment comes first. `latest` is the number of the latest root + 1, or 0 without a root.
 pub fn next_slot(work: &[u32], m: usize, latest: usize) -> Choice
-    requires { ⌜ (m ≤ 12) × (512 * latest ≤ length (now work)) × Older (now work) latest ⌝ }
+    requires { ⌜ (512 * latest ≤ length (now work)) × Older (now work) latest × Tournament m (now work) latest ⌝ }
     ensures { λ r. ⌜ ChosenOf m (now (work .entry)) latest (slotsAt m (now (work .entry)) latest) r ⌝ }
 {
-    let mut best = Choice::Nothing;
-    let mut at = latest;
-    while at != 0 {
-        best = best_in(work, m, at - 1, best);
-        at = records::older_of(work, at - 1);
-    }
-    best
+    win_of(work, latest, 0)
 }
 
 // TAKING AND FILLING
@@ -190,6 +339,7 @@ pub fn first_root(work: &mut [u32], m: usize, t: &[u16; 144], tasks: [u8; 12])
         },
         0,
     );
+    enter(work, m, 0, 0, 0);
 }
 
 // Makes the record of the next root, of number `made`, of the chosen slot: the root's list of 12. After it the latest root is
@@ -212,5 +362,6 @@ pub fn next_root(
     let root = take_slot(work, n, j);
     let tasks = root.tasks;
     make_root(work, m, t, made, root, latest);
+    enter(work, m, latest, made, n);
     tasks
 }

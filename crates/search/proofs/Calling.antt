@@ -33,7 +33,7 @@ use Rattle.records.specs.Record.{fieldsAt, tasksIn, bytes}
 use Rattle.nodes.specs.Nodes.{pathsIn}
 use Rattle.nodes.proofs.Kept.{stored-none}
 use Rattle.nodes.proofs.Readers.{paths-read}
-use Rattle.roots.specs.Choices.{NextTaken}
+use Rattle.roots.specs.Tournament.{NextTaken}
 use Rattle.roots.specs.Begun.{RootBegun}
 use Rattle.expand.specs.Held.{Begun}
 use Rattle.search.specs.Turns.{StartsOf, PlanAt}

@@ -9,7 +9,7 @@ use Rattle.nodes.specs.Nodes.{nodeAt}
 use Rattle.roots.specs.Slots.{slotsAt}
 use Rattle.roots.specs.Choices.{ChosenOf}
 use Rattle.expand.proofs.MakingRoots.{room-record, limit-low, given-kept, same-none, same-then}
-use Rattle.expand.proofs.MakingRoots2.{heldState, no-root, none-remain, none-more, one-more, is-no-root, is-root, latest-room, few-carriers, slots-asked, slots-fall, without-slot, with-slot, next-begun, next-same}
+use Rattle.expand.proofs.MakingRoots2.{heldState, no-root, none-remain, none-more, one-more, is-no-root, is-root, latest-room, few-carriers, slots-asked, slots-fall, slots-played, without-slot, with-slot, next-begun, next-same}
 use Rattle.expand.proofs.next_root.Statement.{statement}
 use Rattle.expand.proofs.next_root.Tie as tie
 
@@ -37,7 +37,7 @@ next-slot-requires : tie.Need-next-slot-requires
 next-slot-requires c κs =
     let q = c .before .before .before .before .before .before .before .before .pre in
     let m = c .before .byte-at .ensures .0 in
-    (few-carriers (q .0) (q .2 .1) m, latest-room (q .0) (q .2 .1), slots-fall (q .0) (q .2 .1) m)
+    (latest-room (q .0) (q .2 .1), slots-fall (q .0) (q .2 .1) m, slots-played (q .0) (q .2 .1) m)
 
 enum-known-from : tie.Need-enum-known-from
 enum-known-from c = search needs

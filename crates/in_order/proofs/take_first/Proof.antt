@@ -6,7 +6,7 @@ use borrow.Author.Tests.{not-true, not-false}
 use Rattle.deck.specs.Assignments.{assignmentsInOrder}
 use Rattle.prices.specs.Square.{copied}
 use Rattle.assignment.proofs.Calls.{not-found, found}
-use Rattle.roots.specs.Choices.{NextTaken}
+use Rattle.roots.specs.Tournament.{NextTaken}
 use Rattle.in_order.proofs.Progress.{none-first}
 use borrow.Author.Needs.{needs}
 use Rattle.in_order.proofs.take_first.Statement.{statement}

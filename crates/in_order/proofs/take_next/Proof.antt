@@ -5,7 +5,8 @@ use mathlib.Core.List.{List}
 use native.Mathlib.Omega.{arith}
 use Rattle.prices.specs.Square.{copied}
 use Rattle.roots.specs.Slots.{slotsAt}
-use Rattle.roots.specs.Choices.{ChosenOf, NextTaken}
+use Rattle.roots.specs.Choices.{ChosenOf}
+use Rattle.roots.specs.Tournament.{NextTaken}
 use Rattle.roots.proofs.Made.{slots-older, nothing-left}
 use borrow.Author.Needs.{needs}
 use Rattle.in_order.proofs.take_next.Statement.{statement}
@@ -14,7 +15,7 @@ use Rattle.in_order.proofs.take_next.Tie as tie
 next-slot-requires : tie.Need-next-slot-requires
 next-slot-requires c κs =
     let s = c .before .before .before in
-    (s .pre .0, omega arith, slots-older (s .args .m) (copied (s .args .m) (s .args .t .now)) (s .args .work .now) (s .args .made) (s .pre .4 .0) (s .pre .4 .1))
+    (omega arith, slots-older (s .args .m) (copied (s .args .m) (s .args .t .now)) (s .args .work .now) (s .args .made) (s .pre .4 .0) (s .pre .4 .1), s .pre .4 .1 .tournament)
 
 enum-known-n : tie.Need-enum-known-n
 enum-known-n c = search needs
