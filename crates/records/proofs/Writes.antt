@@ -54,9 +54,9 @@ head-wrote work ys n link v c h b e s =
     (wrote-whole (set work (512 * n) link) (wordsOf c) n 1 (512 * n + 1) (512 * n + 6) (omega arith) (length-words c) (rw (length-set work (512 * n) link) h) (omega arith) (omega arith)))
 
 -- the word of the tournament
-pub queue-wrote : (work : List ℕ) (n x v : ℕ) → 512 * n + 512 ≤ length work → x < 4294967296 → v ≡ x % 4294967296
+pub tournament-wrote : (work : List ℕ) (n x v : ℕ) → 512 * n + 512 ≤ length work → x < 4294967296 → v ≡ x % 4294967296
     → Wrote work (set work (512 * n + 31) v) n (set (fieldsAt work n) 5 (x ∷ []))
-queue-wrote work n x v h b e = rw (fits-word x v b e) (wrote-one work n 5 x (512 * n + 31) (omega arith) refl h (omega arith))
+tournament-wrote work n x v h b e = rw (fits-word x v b e) (wrote-one work n 5 x (512 * n + 31) (omega arith) refl h (omega arith))
 
 -- the finish and the packed path
 pub path-wrote : (work ys : List ℕ) (n i finish v : ℕ) (packed : List ℕ) → 512 * n + 512 ≤ length work → i < 12 → finish < 4294967296 → v ≡ finish % 4294967296 → length packed ≡ 20 → ys ≡ packed

@@ -61,8 +61,8 @@ finishesIn fs = getD fs 3 []
 abbrev pub rowIn : List (List ℕ) → ℕ
 rowIn fs = getD (getD fs 4 []) 0 0
 
-abbrev pub queueIn : List (List ℕ) → ℕ
-queueIn fs = getD (getD fs 5 []) 0 0
+abbrev pub tournamentIn : List (List ℕ) → ℕ
+tournamentIn fs = getD (getD fs 5 []) 0 0
 
 -- slot j: a flag, a sum and twelve tasks
 abbrev pub slotIn : List (List ℕ) → ℕ → List ℕ

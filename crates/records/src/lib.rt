@@ -9,7 +9,7 @@ ghost use Rattle.deck.specs.Lists.{sum};
 ghost use Rattle.deck.specs.Sheet.{task};
 ghost use Rattle.pack.specs.Pack.{packOf};
 ghost use Rattle.records.specs.Cut.{part, put};
-ghost use Rattle.records.specs.Record.{fields, fieldsAt, linkIn, rootIn, constraintIn, ownIn, headIn, tasksIn, finishesIn, rowIn, closedIn, slotIn, flagIn, sumIn, slotTasksIn, queueIn, bytes, wordsOf, Small, withPath, withSlot, rootFields, closedKey, withKey, Wrote};
+ghost use Rattle.records.specs.Record.{fields, fieldsAt, linkIn, rootIn, constraintIn, ownIn, headIn, tasksIn, finishesIn, rowIn, closedIn, slotIn, flagIn, sumIn, slotTasksIn, tournamentIn, bytes, wordsOf, Small, withPath, withSlot, rootFields, closedKey, withKey, Wrote};
 use deck::Carrier;
 use deck::Constraint;
 use deck::Task;
@@ -179,9 +179,9 @@ pub fn closed_of(work: &[u32], n: usize) -> [u8; 12]
 }
 
 // The word of the tournament of the slots.
-pub fn queue_of(work: &[u32], n: usize) -> usize
+pub fn tournament_of(work: &[u32], n: usize) -> usize
     requires { ⌜ 512 * n + 512 ≤ length (now work) ⌝ }
-    ensures { λ r. ⌜ r ≡ queueIn (fieldsAt (now (work .entry)) n) ⌝ }
+    ensures { λ r. ⌜ r ≡ tournamentIn (fieldsAt (now (work .entry)) n) ⌝ }
 {
     wide(work[512 * n + 31])
 }
@@ -270,7 +270,7 @@ pub fn set_head(work: &mut [u32], n: usize, head: NodeHead)
     hold(&mut work[at + 1..at + 6], c);
 }
 
-pub fn set_queue(work: &mut [u32], n: usize, v: usize)
+pub fn set_tournament(work: &mut [u32], n: usize, v: usize)
     requires { ⌜ (512 * n + 512 ≤ length (now work)) × (v < 4294967296) ⌝ }
     ensures { λ _. ⌜ Wrote (now (work .entry)) (now (work .exit)) n (set (fieldsAt (now (work .entry)) n) 5 (v ∷ [])) ⌝ }
 {

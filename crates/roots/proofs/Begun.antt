@@ -18,7 +18,7 @@ use Rattle.nodes.specs.Stored.{Stored, RootSoFar}
 use Rattle.nodes.proofs.Kept.{Alike, alike-same, slot-alike, kept-stored, kept-nodes, kept-opened}
 use Rattle.roots.specs.Slots.{rootsAt, slotHere, rootSlots, slotsAt, Rooted, PartsHold, RootMade}
 use Rattle.roots.specs.Choices.{Cleared}
-use Rattle.roots.specs.Tournament.{ownAt, Tournament, Queued, SlotsHold}
+use Rattle.roots.specs.Tournament.{ownAt, Tournament, OnlyTournament, SlotsHold}
 use Rattle.roots.specs.Begun.{RootBegun, PartsAlike, SlotsAlike}
 use Rattle.roots.proofs.Chains.{roots-below, roots-same}
 use Rattle.roots.proofs.Taken.{each-same}
@@ -26,7 +26,7 @@ use Rattle.roots.proofs.Codes.{win-kept, own-kept}
 use Rattle.roots.proofs.Playing.{order-slots, best-same, played-on}
 
 -- THE ROOT
-module _ (m : ℕ) (table mid after final : List ℕ) (made : ℕ) (tasks : List ℕ) (row : ℕ) (closed : List ℕ) (older : ℕ) (u : RootMade m table mid after made tasks row closed older) (q : Queued after final (made + 1)) where
+module _ (m : ℕ) (table mid after final : List ℕ) (made : ℕ) (tasks : List ℕ) (row : ℕ) (closed : List ℕ) (older : ℕ) (u : RootMade m table mid after made tasks row closed older) (q : OnlyTournament after final (made + 1)) where
   new-field : (f : ℕ) → f ≢ 5 → f ≢ 6 → getD (fieldsAt final made) f [] ≡ getD (rootFields tasks row closed older) f []
   new-field f a b =
       q .fields made f a ∙ ap (λ (l : List (List ℕ)). getD l f []) (u .same .here)
@@ -74,7 +74,7 @@ module _ (m : ℕ) (table mid after final : List ℕ) (made : ℕ) (tasks : List
 
 -- THE SLOTS are read from their fields of the roots' records alone
 pub slots-same : (fs gs : List (List ℕ)) → fs ≡ gs → SlotsAlike fs gs
-slots-same fs gs e = rw e (record { parts = record { tasks = refl; row = refl; slots = refl; older = refl; closed = refl }; queue = refl })
+slots-same fs gs e = rw e (record { parts = record { tasks = refl; row = refl; slots = refl; older = refl; closed = refl }; tournament = refl })
 
 module _ (m : ℕ) (fs gs : List (List ℕ)) (a : PartsAlike fs gs) where
   root-slots-same : rootSlots m fs ≡ rootSlots m gs
@@ -119,13 +119,13 @@ slots-kept m table before after latest rest alike H =
     same = roots-kept before after latest (λ n i. alike n (low n i) .parts)
 
     own : (k : ℕ) → k < latest → ownAt after k ≡ ownAt before k
-    own k l = own-kept before after k (alike k l .queue)
+    own k l = own-kept before after k (alike k l .tournament)
 
     kept : Tournament m after latest
     kept =
         record {
           played =
-              played-on before after latest latest (omega arith) (λ k l. order-slots (fieldsAt after k) (fieldsAt before k) (alike k l .parts .slots)) (λ k l. win-kept before after k (alike k l .queue)) own
+              played-on before after latest latest (omega arith) (λ k l. order-slots (fieldsAt after k) (fieldsAt before k) (alike k l .parts .slots)) (λ k l. win-kept before after k (alike k l .tournament)) own
               (λ k a b. absurd (omega arith)) (λ k a b. absurd (omega arith)) (H .tournament .played);
           roots = λ k i.
               let j = subst (Mem k) same i in
@@ -135,8 +135,8 @@ slots-kept m table before after latest rest alike H =
         }
 
 -- words of the tournament are written
-pub queued-alike : (before after : List ℕ) (l : ℕ) → Queued before after l → (k : ℕ) → PartsAlike (fieldsAt after k) (fieldsAt before k)
-queued-alike before after l q k =
+pub only-alike : (before after : List ℕ) (l : ℕ) → OnlyTournament before after l → (k : ℕ) → PartsAlike (fieldsAt after k) (fieldsAt before k)
+only-alike before after l q k =
     record {
       tasks = q .fields k 2 (λ e. omega arith);
       row = q .fields k 4 (λ e. omega arith);
@@ -150,7 +150,7 @@ pub path-slots-alike : (before after : List ℕ) (n i finish : ℕ) (packed : Li
 path-slots-alike before after n i finish packed u k = go (ℕ-discrete k n)
   where
     path-alike : SlotsAlike (withPath (fieldsAt before n) i finish packed) (fieldsAt before n)
-    path-alike = unfold fieldsAt in unfold fields in record { parts = record { tasks = refl; row = refl; slots = refl; older = refl; closed = refl }; queue = refl }
+    path-alike = unfold fieldsAt in unfold fields in record { parts = record { tasks = refl; row = refl; slots = refl; older = refl; closed = refl }; tournament = refl }
 
     go : Dec (k ≡ n) → SlotsAlike (fieldsAt after k) (fieldsAt before k)
     go (yes z) = rw (z, u .here) path-alike

@@ -6,16 +6,16 @@ use mathlib.Core.List.{List}
 use native.Mathlib.Omega.{arith}
 use native.Mathlib.Decide.{ℕ-discrete}
 use Rattle.prices.proofs.Growth.{lower}
-use Rattle.roots.specs.Tournament.{winAt, ownAt, winBelow, firstHere, bestOwn, Below, Of, Named, PlayedBut, Played, Queued, WordPut, Climbed, Refreshed, Emptied, Entered}
+use Rattle.roots.specs.Tournament.{winAt, ownAt, winBelow, firstHere, bestOwn, Below, Of, Named, PlayedBut, Played, OnlyTournament, WordPut, Climbed, Refreshed, Emptied, Entered}
 use Rattle.roots.specs.declared.Choice.{Choice}
 use Rattle.roots.specs.declared.Choice.the-variants.{Nothing}
 use Rattle.roots.proofs.Codes.{below-yes, below-no}
-use Rattle.roots.proofs.Playing.{below-here, here-same, played-on, queued-none, queued-wider, queued-then, queued-order, queued-best}
+use Rattle.roots.proofs.Playing.{below-here, here-same, played-on, only-none, only-wider, only-then, only-order, only-best}
 
 -- A WORD IS PUT ANEW
 module _ (before after : List ℕ) (latest k : ℕ) (l : k < latest) (win own : Choice) (N : Named before latest) (u : WordPut before after k win own) where
-  put-same : Queued before after latest
-  put-same = queued-wider before after (k + 1) latest (omega arith) (u .same)
+  put-same : OnlyTournament before after latest
+  put-same = only-wider before after (k + 1) latest (omega arith) (u .same)
 
   put-named : Below latest win → Of k own → Named after latest
   put-named b o = record { wins = λ i g. win-of i g (ℕ-discrete i k); owns = λ i g. own-of i g (ℕ-discrete i k) }
@@ -35,7 +35,7 @@ module _ (before after : List ℕ) (latest k : ℕ) (l : k < latest) (win own : 
 
   -- the first choice at a number that k is not under
   put-here : (i : ℕ) → i < latest → ownAt after i ≡ ownAt before i → 2 * i + 1 ≢ k → 2 * i + 2 ≢ k → firstHere after latest i ≡ firstHere before latest i
-  put-here i g o a b = here-same before after latest (λ n h. queued-order before after latest put-same n) latest i N g o (put-below (2 * i + 1) a) (put-below (2 * i + 2) b)
+  put-here i g o a b = here-same before after latest (λ n h. only-order before after latest put-same n) latest i N g o (put-below (2 * i + 1) a) (put-below (2 * i + 2) b)
 
 -- THE FIRST CHOICE AT NUMBER k IS STORED
 module _ (before after : List ℕ) (latest k : ℕ) (l : k < latest) (u : WordPut before after k (firstHere before latest k) (ownAt before k)) (P : PlayedBut before latest k) where
@@ -59,24 +59,24 @@ module _ (before after : List ℕ) (latest k : ℕ) (l : k < latest) (u : WordPu
       go (yes e) = rw e (u .win-here)
       go (no e) = u .wins i e ∙ P .first i g e
 
-  settled-same : Queued before after latest
+  settled-same : OnlyTournament before after latest
   settled-same = put-same before after latest k l (firstHere before latest k) (ownAt before k) N u
 
 -- FROM A NUMBER UP
 pub record Climbing (before work : List ℕ) (latest at : ℕ) : Type 0 where
-  pub same : Queued before work latest
+  pub same : OnlyTournament before work latest
   pub own : (k : ℕ) → ownAt work k ≡ ownAt before k
   pub played : PlayedBut work latest at
   pub low : at < latest
 
 pub climb-none : (work : List ℕ) (latest n : ℕ) → n < latest → PlayedBut work latest n → Climbing work work latest n
-climb-none work latest n l p = record { same = queued-none work latest; own = λ k. refl; played = p; low = l }
+climb-none work latest n l p = record { same = only-none work latest; own = λ k. refl; played = p; low = l }
 
 module _ (before work after : List ℕ) (latest at : ℕ) (C : Climbing before work latest at) (u : WordPut work after at (firstHere work latest at) (ownAt work at)) where
   pub climb-more : at ≢ 0 → Climbing before after latest ((at - 1) / 2)
   climb-more ne =
       record {
-        same = queued-then before work after latest (C .same) (settled-same work after latest at (C .low) u (C .played));
+        same = only-then before work after latest (C .same) (settled-same work after latest at (C .low) u (C .played));
         own = λ k. settled-own work after latest at (C .low) u (C .played) k ∙ C .own k;
         played =
             record {
@@ -89,7 +89,7 @@ module _ (before work after : List ℕ) (latest at : ℕ) (C : Climbing before w
   pub climb-all : at ≡ 0 → Climbed before after latest
   climb-all z =
       record {
-        same = queued-then before work after latest (C .same) (settled-same work after latest at (C .low) u (C .played));
+        same = only-then before work after latest (C .same) (settled-same work after latest at (C .low) u (C .played));
         own = λ k. settled-own work after latest at (C .low) u (C .played) k ∙ C .own k;
         played =
             record {
@@ -104,7 +104,7 @@ module _ (m : ℕ) (before mid : List ℕ) (latest n : ℕ) (l : n < latest) (wi
   found-but =
       record {
         named = put-named before mid latest n l win own (P .named) u (subst (Below latest) (sym same-win) (P .named .wins n l)) o;
-        first = λ i g ne. u .wins i ne ∙ P .first i g ∙ sym (here-same before mid latest (λ k h. queued-order before mid latest (put-same before mid latest n l win own (P .named) u) k) latest i (P .named) g (u .owns i ne) (all-wins (2 * i + 1)) (all-wins (2 * i + 2)));
+        first = λ i g ne. u .wins i ne ∙ P .first i g ∙ sym (here-same before mid latest (λ k h. only-order before mid latest (put-same before mid latest n l win own (P .named) u) k) latest i (P .named) g (u .owns i ne) (all-wins (2 * i + 1)) (all-wins (2 * i + 2)));
       }
     where
       same-win : win ≡ winAt before n
@@ -120,7 +120,7 @@ module _ (m : ℕ) (before mid : List ℕ) (latest n : ℕ) (l : n < latest) (wi
   pub found-again : (after : List ℕ) → own ≡ bestOwn m before n → Climbed mid after latest → Refreshed m before after latest n
   found-again after e c =
       record {
-        same = queued-then before mid after latest (put-same before mid latest n l win own (P .named) u) (c .same);
+        same = only-then before mid after latest (put-same before mid latest n l win own (P .named) u) (c .same);
         own = c .own n ∙ u .own-here ∙ e;
         others = λ k ne. c .own k ∙ u .owns k ne;
         played = c .played;
@@ -130,7 +130,7 @@ module _ (m : ℕ) (before mid : List ℕ) (latest n : ℕ) (l : n < latest) (wi
 pub empty-none : (work : List ℕ) (from : ℕ) → Emptied work work from from
 empty-none work from =
     record {
-      same = queued-none work from;
+      same = only-none work from;
       old-win = λ k l. refl;
       old-own = λ k l. refl;
       new-win = λ k a b. absurd (omega arith);
@@ -140,7 +140,7 @@ empty-none work from =
 pub empty-more : (before work after : List ℕ) (from k : ℕ) → from ≤ k → Emptied before work from k → WordPut work after k Nothing Nothing → Emptied before after from (k + 1)
 empty-more before work after from k l E u =
     record {
-      same = queued-then before work after (k + 1) (queued-wider before work k (k + 1) (omega arith) (E .same)) (u .same);
+      same = only-then before work after (k + 1) (only-wider before work k (k + 1) (omega arith) (E .same)) (u .same);
       old-win = λ i h. u .wins i (λ e. omega arith) ∙ E .old-win i h;
       old-own = λ i h. u .owns i (λ e. omega arith) ∙ E .old-own i h;
       new-win = λ i a b. win i a b (ℕ-discrete i k);
@@ -158,20 +158,20 @@ empty-more before work after from k l E u =
 -- A ROOT ENTERS
 module _ (m : ℕ) (before mid : List ℕ) (latest made : ℕ) (le : latest ≤ made) (P : Played before latest) (E : Emptied before mid latest (made + 1)) where
   pub played-emptied : Played mid (made + 1)
-  played-emptied = played-on before mid latest (made + 1) (omega arith) (λ k l. queued-order before mid (made + 1) (E .same) k) (E .old-win) (E .old-own) (E .new-win) (E .new-own) P
+  played-emptied = played-on before mid latest (made + 1) (omega arith) (λ k l. only-order before mid (made + 1) (E .same) k) (E .old-win) (E .old-own) (E .new-win) (E .new-own) P
 
   pub root-entered : (next after : List ℕ) (n : ℕ) → Refreshed m mid next (made + 1) n → Refreshed m next after (made + 1) made → Entered m before after latest made n
   root-entered next after n r s =
       record {
-        same = queued-then before mid after (made + 1) (E .same) (queued-then mid next after (made + 1) (r .same) (s .same));
+        same = only-then before mid after (made + 1) (E .same) (only-then mid next after (made + 1) (r .same) (s .same));
         played = s .played;
-        own = s .own ∙ sym (queued-best next after (made + 1) (s .same) m made);
+        own = s .own ∙ sym (only-best next after (made + 1) (s .same) m made);
         taken = go (ℕ-discrete n made);
         old = λ k l a b. s .others k b ∙ r .others k a ∙ E .old-own k l;
         new = λ k l g a. s .others k (λ e. omega arith) ∙ r .others k a ∙ E .new-own k l (omega arith);
       }
     where
       go : Dec (n ≡ made) → ownAt after n ≡ bestOwn m after n
-      go (yes e) = rw e (s .own ∙ sym (queued-best next after (made + 1) (s .same) m made))
+      go (yes e) = rw e (s .own ∙ sym (only-best next after (made + 1) (s .same) m made))
       go (no e) =
-          s .others n e ∙ r .own ∙ sym (queued-best mid next (made + 1) (r .same) m n) ∙ sym (queued-best next after (made + 1) (s .same) m n)
+          s .others n e ∙ r .own ∙ sym (only-best mid next (made + 1) (r .same) m n) ∙ sym (only-best next after (made + 1) (s .same) m n)

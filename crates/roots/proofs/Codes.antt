@@ -9,7 +9,7 @@ use native.Mathlib.Decide.{ℕ-discrete}
 use lib.ListN.{getD, set}
 use lib.Seq.{getD-set-same, getD-set-other}
 use borrow.Author.Tests.{lt-ltb, le-ltb}
-use Rattle.records.specs.Record.{fieldsAt, queueIn, Wrote}
+use Rattle.records.specs.Record.{fieldsAt, tournamentIn, Wrote}
 use Rattle.roots.specs.Tournament.{codeOf, choiceOf, slotCode, slotChoice, winAt, ownAt, winBelow, Below, Of, WordPut}
 use Rattle.roots.specs.declared.Choice.{Choice}
 use Rattle.roots.specs.declared.Choice.the-variants.{Nothing, Slot as Chosen}
@@ -34,11 +34,11 @@ some-choice c ne =
     sym (ap choiceOf e)
 
 module _ (work : List ℕ) (k : ℕ) where
-  pub no-own : (q : ℕ) → q ≡ queueIn (fieldsAt work k) → q % 16 ≡ 0 → Nothing ≡ ownAt work k
+  pub no-own : (q : ℕ) → q ≡ tournamentIn (fieldsAt work k) → q % 16 ≡ 0 → Nothing ≡ ownAt work k
   unfolding ownAt
   no-own q e z = rw (← e, z)
 
-  pub some-own : (q : ℕ) → q ≡ queueIn (fieldsAt work k) → q % 16 ≢ 0 → Chosen k (q % 16 - 1) ≡ ownAt work k
+  pub some-own : (q : ℕ) → q ≡ tournamentIn (fieldsAt work k) → q % 16 ≢ 0 → Chosen k (q % 16 - 1) ≡ ownAt work k
   unfolding ownAt
   some-own q e ne =
       let z : q % 16 ≡ suc (q % 16 - 1) = omega (arith, ne) in
@@ -52,7 +52,7 @@ module _ (work : List ℕ) (k : ℕ) where
   unfolding winBelow
   below-no latest h = rw (le-ltb k latest h)
 
-  pub win-read : (latest q : ℕ) (r : Choice) → k < latest → q ≡ queueIn (fieldsAt work k) → r ≡ choiceOf (q / 16) → r ≡ winBelow work latest k
+  pub win-read : (latest q : ℕ) (r : Choice) → k < latest → q ≡ tournamentIn (fieldsAt work k) → r ≡ choiceOf (q / 16) → r ≡ winBelow work latest k
   unfolding winAt
   win-read latest q r h e f = f ∙ ap (λ (x : ℕ). choiceOf (x / 16)) e ∙ sym (below-yes latest h)
 
@@ -68,11 +68,11 @@ module _ (before after : List ℕ) (k : ℕ) (e : getD (fieldsAt after k) 5 [] �
 
 -- WRITTEN
 module _ (before after : List ℕ) (k v : ℕ) (u : Wrote before after k (set (fieldsAt before k) 5 (v ∷ []))) where
-  queue-here : queueIn (fieldsAt after k) ≡ v
-  queue-here = ap queueIn (u .here) ∙ ap (λ (l : List ℕ). getD l 0 0) (getD-set-same (fieldsAt before k) 5 (v ∷ []) [] (omega (arith, fields-long before k)))
+  tournament-here : tournamentIn (fieldsAt after k) ≡ v
+  tournament-here = ap tournamentIn (u .here) ∙ ap (λ (l : List ℕ). getD l 0 0) (getD-set-same (fieldsAt before k) 5 (v ∷ []) [] (omega (arith, fields-long before k)))
 
-  queue-fields : (i f : ℕ) → f ≢ 5 → getD (fieldsAt after i) f [] ≡ getD (fieldsAt before i) f []
-  queue-fields i f ne = go (ℕ-discrete i k)
+  tournament-fields : (i f : ℕ) → f ≢ 5 → getD (fieldsAt after i) f [] ≡ getD (fieldsAt before i) f []
+  tournament-fields i f ne = go (ℕ-discrete i k)
     where
       go : Dec (i ≡ k) → getD (fieldsAt after i) f [] ≡ getD (fieldsAt before i) f []
       go (yes e) = rw e (ap (λ (l : List (List ℕ)). getD l f []) (u .here) ∙ getD-set-other (fieldsAt before k) 5 f (v ∷ []) [] ne)
@@ -82,11 +82,11 @@ module _ (before after : List ℕ) (k v : ℕ) (u : Wrote before after k (set (f
   unfolding winAt ownAt
   word-put win own h o l e =
       record {
-        same = record { fields = queue-fields; keys = λ limit i b. u .keys limit i (omega arith) };
-        win-here = ap (λ (q : ℕ). choiceOf (q / 16)) (queue-here ∙ e) ∙ ap choiceOf high ∙ choice-code 4097 win h;
-        own-here = ap (λ (q : ℕ). slotChoice k (q % 16)) (queue-here ∙ e) ∙ ap (slotChoice k) low ∙ slot-code k own o;
-        wins = λ i ne. ap (λ (l : List (List ℕ)). choiceOf (queueIn l / 16)) (u .records i ne);
-        owns = λ i ne. ap (λ (l : List (List ℕ)). slotChoice i (queueIn l % 16)) (u .records i ne);
+        same = record { fields = tournament-fields; keys = λ limit i b. u .keys limit i (omega arith) };
+        win-here = ap (λ (q : ℕ). choiceOf (q / 16)) (tournament-here ∙ e) ∙ ap choiceOf high ∙ choice-code 4097 win h;
+        own-here = ap (λ (q : ℕ). slotChoice k (q % 16)) (tournament-here ∙ e) ∙ ap (slotChoice k) low ∙ slot-code k own o;
+        wins = λ i ne. ap (λ (l : List (List ℕ)). choiceOf (tournamentIn l / 16)) (u .records i ne);
+        owns = λ i ne. ap (λ (l : List (List ℕ)). slotChoice i (tournamentIn l % 16)) (u .records i ne);
       }
     where
       small : (b : Choice) → Of k b → slotCode b < 16

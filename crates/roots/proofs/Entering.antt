@@ -14,20 +14,20 @@ use Rattle.roots.specs.Tournament.{ownAt, bestOwn, Played, Tournament, E
 use Rattle.roots.specs.declared.Choice.the-variants.{Nothing, Slot as Chosen}
 use Rattle.roots.proofs.Chains.{no-roots, roots-below}
 use Rattle.roots.proofs.Codes.{win-kept, own-kept}
-use Rattle.roots.proofs.Playing.{SameOrder, played-on, best-same, queued-best}
-use Rattle.roots.proofs.Taken.{taken-roots, taken-queue, taken-order}
+use Rattle.roots.proofs.Playing.{SameOrder, played-on, best-same, only-best}
+use Rattle.roots.proofs.Taken.{taken-roots, taken-tournament, taken-order}
 use Rattle.roots.proofs.Made.{roots-made, left-rooted}
-use Rattle.roots.proofs.Begun.{roots-kept, parts-kept, queued-alike}
+use Rattle.roots.proofs.Begun.{roots-kept, parts-kept, only-alike}
 
 -- the roots are `made` and some older ones; the own choices of these but root n are right already
 module _ (m : ℕ) (after final : List ℕ) (latest made n : ℕ) (old : List ℕ) (le : latest ≤ made) (roots : rootsAt after (made + 1) ≡ made ∷ old) (low : (k : ℕ) → Mem k old → k < latest) (member : Mem n (made ∷ old))
     (known : (k : ℕ) → Mem k old → k ≢ n → ownAt after k ≡ bestOwn m after k) (none : (k : ℕ) → k < latest → (ownAt after k ≡ Nothing) ⊎ Mem k old) (E : Entered m after final latest made n) where
   same-roots : rootsAt final (made + 1) ≡ made ∷ old
-  same-roots = roots-kept after final (made + 1) (λ k i. queued-alike after final (made + 1) (E .same) k) ∙ roots
+  same-roots = roots-kept after final (made + 1) (λ k i. only-alike after final (made + 1) (E .same) k) ∙ roots
 
   old-own : (k : ℕ) → Mem k old → Dec (k ≡ n) → ownAt final k ≡ bestOwn m final k
   old-own k j (yes e) = rw e (E .taken)
-  old-own k j (no e) = E .old k (low k j) e (λ z. omega (arith, low k j)) ∙ known k j e ∙ sym (queued-best after final (made + 1) (E .same) m k)
+  old-own k j (no e) = E .old k (low k j) e (λ z. omega (arith, low k j)) ∙ known k j e ∙ sym (only-best after final (made + 1) (E .same) m k)
 
   other : (k : ℕ) → k < made + 1 → Dec (k ≡ made) → Dec (k ≡ n) → (ownAt final k ≡ Nothing) ⊎ Mem k (made ∷ old)
   other k l (yes e) d = inr (subst (λ (x : ℕ). Mem x (made ∷ old)) (sym e) (here refl))
@@ -46,7 +46,7 @@ module _ (m : ℕ) (after final : List ℕ) (latest made n : ℕ) (old : List �
 
   pub slots-entered : (table : List ℕ) (others : List (List ℕ)) → PartsHold m table after (made + 1) others → SlotsHold m table final (made + 1) others
   slots-entered table others H =
-      record { parts = parts-kept m table after final (made + 1) others (λ k i. queued-alike after final (made + 1) (E .same) k) H; tournament = tournament-entered }
+      record { parts = parts-kept m table after final (made + 1) others (λ k i. only-alike after final (made + 1) (E .same) k) H; tournament = tournament-entered }
 
 -- THE NEXT ROOT: a slot of root n is cleared, and root `made` is made
 module _ (m : ℕ) (table before mid : List ℕ) (latest made n j : ℕ) (rest : List (List ℕ)) (small : m ≤ 12) (size : 512 * latest ≤ length before) (le : latest ≤ made)
@@ -61,14 +61,14 @@ module _ (m : ℕ) (table before mid : List ℕ) (latest made n j : ℕ) (rest :
   made-record : (k : ℕ) → k < latest → fieldsAt after k ≡ fieldsAt mid k
   made-record k l = u .same .records k (λ e. omega arith)
 
-  queue-kept : (k : ℕ) → k < latest → getD (fieldsAt after k) 5 [] ≡ getD (fieldsAt before k) 5 []
-  queue-kept k l = ap (λ (fs : List (List ℕ)). getD fs 5 []) (made-record k l) ∙ taken-queue m before mid latest n j small falls size (chosen .0) cleared k
+  tournament-kept : (k : ℕ) → k < latest → getD (fieldsAt after k) 5 [] ≡ getD (fieldsAt before k) 5 []
+  tournament-kept k l = ap (λ (fs : List (List ℕ)). getD fs 5 []) (made-record k l) ∙ taken-tournament m before mid latest n j small falls size (chosen .0) cleared k
 
   pub next-played : Played after latest
   next-played =
       played-on before after latest latest (omega arith)
       (λ k l. subst (λ (fs : List (List ℕ)). SameOrder fs (fieldsAt before k)) (sym (made-record k l)) (taken-order m before mid latest n j small falls size (chosen .0) cleared k))
-      (λ k l. win-kept before after k (queue-kept k l)) (λ k l. own-kept before after k (queue-kept k l))
+      (λ k l. win-kept before after k (tournament-kept k l)) (λ k l. own-kept before after k (tournament-kept k l))
       (λ k a b. absurd (omega arith)) (λ k a b. absurd (omega arith)) (H .tournament .played)
 
   pub next-entered : (final : List ℕ) → Entered m after final latest made n → (others : List (List ℕ)) → PartsHold m table after (made + 1) others → SlotsHold m table final (made + 1) others
@@ -82,11 +82,11 @@ module _ (m : ℕ) (table before mid : List ℕ) (latest made n j : ℕ) (rest :
       known : (k : ℕ) → Mem k (rootsAt before latest) → k ≢ n → ownAt after k ≡ bestOwn m after k
       known k i ne =
           let e : fieldsAt after k ≡ fieldsAt before k = made-record k (low k i) ∙ cleared .records k ne in
-          own-kept before after k (queue-kept k (low k i)) ∙ H .tournament .roots k i
+          own-kept before after k (tournament-kept k (low k i)) ∙ H .tournament .roots k i
           ∙ sym (best-same before after k (ap (λ (fs : List (List ℕ)). getD fs 6 []) e) m (ap (λ (fs : List (List ℕ)). getD fs 4 []) e))
 
       none : (k : ℕ) → k < latest → (ownAt after k ≡ Nothing) ⊎ Mem k (rootsAt before latest)
-      none k l = ⊎-elim (λ e. inl (own-kept before after k (queue-kept k l) ∙ e)) inr (H .tournament .others k l)
+      none k l = ⊎-elim (λ e. inl (own-kept before after k (tournament-kept k l) ∙ e)) inr (H .tournament .others k l)
 
 -- THE FIRST ROOT
 pub first-played : (work : List ℕ) → Played work 0

@@ -11,7 +11,7 @@ use Rattle.deck.specs.Lists.{countFrom}
 use Rattle.prices.proofs.Growth.{lower}
 use Rattle.records.specs.Record.{fieldsAt, rowIn, flagIn, sumIn, slotTasksIn}
 use Rattle.roots.specs.Choices.{slotBefore, firstOf, betterOf, overSlots, Inside}
-use Rattle.roots.specs.Tournament.{winAt, ownAt, winBelow, firstChoice, firstHere, bestOwn, Below, Of, Named, Played, Queued}
+use Rattle.roots.specs.Tournament.{winAt, ownAt, winBelow, firstChoice, firstHere, bestOwn, Below, Of, Named, Played, OnlyTournament}
 use Rattle.roots.specs.declared.Choice.{Choice}
 use Rattle.roots.specs.declared.Choice.the-variants.{Nothing, Slot as Chosen}
 use Rattle.roots.proofs.Codes.{below-yes, below-no}
@@ -186,18 +186,18 @@ module _ (before after : List ℕ) (n : ℕ) (slots : getD (fieldsAt after n) 6 
   best-same m row = rw row (over-same (countFrom (rowIn (fieldsAt before n)) (m - rowIn (fieldsAt before n))) Nothing tt)
 
 -- WRITES OF WORDS OF THE TOURNAMENT, one after another
-pub queued-none : (work : List ℕ) (latest : ℕ) → Queued work work latest
-queued-none work latest = record { fields = λ k f ne. refl; keys = λ limit k l. refl }
+pub only-none : (work : List ℕ) (latest : ℕ) → OnlyTournament work work latest
+only-none work latest = record { fields = λ k f ne. refl; keys = λ limit k l. refl }
 
-pub queued-wider : (a b : List ℕ) (l to : ℕ) → l ≤ to → Queued a b l → Queued a b to
-queued-wider a b l to h q = record { fields = q .fields; keys = λ limit k g. q .keys limit k (omega arith) }
+pub only-wider : (a b : List ℕ) (l to : ℕ) → l ≤ to → OnlyTournament a b l → OnlyTournament a b to
+only-wider a b l to h q = record { fields = q .fields; keys = λ limit k g. q .keys limit k (omega arith) }
 
-pub queued-then : (a b c : List ℕ) (latest : ℕ) → Queued a b latest → Queued b c latest → Queued a c latest
-queued-then a b c latest u v = record { fields = λ k f ne. v .fields k f ne ∙ u .fields k f ne; keys = λ limit k l. v .keys limit k l ∙ u .keys limit k l }
+pub only-then : (a b c : List ℕ) (latest : ℕ) → OnlyTournament a b latest → OnlyTournament b c latest → OnlyTournament a c latest
+only-then a b c latest u v = record { fields = λ k f ne. v .fields k f ne ∙ u .fields k f ne; keys = λ limit k l. v .keys limit k l ∙ u .keys limit k l }
 
-module _ (before after : List ℕ) (latest : ℕ) (q : Queued before after latest) where
-  pub queued-order : (k : ℕ) → SameOrder (fieldsAt after k) (fieldsAt before k)
-  queued-order k = order-slots (fieldsAt after k) (fieldsAt before k) (q .fields k 6 (λ e. omega arith))
+module _ (before after : List ℕ) (latest : ℕ) (q : OnlyTournament before after latest) where
+  pub only-order : (k : ℕ) → SameOrder (fieldsAt after k) (fieldsAt before k)
+  only-order k = order-slots (fieldsAt after k) (fieldsAt before k) (q .fields k 6 (λ e. omega arith))
 
-  pub queued-best : (m n : ℕ) → bestOwn m after n ≡ bestOwn m before n
-  queued-best m n = best-same before after n (q .fields n 6 (λ e. omega arith)) m (q .fields n 4 (λ e. omega arith))
+  pub only-best : (m n : ℕ) → bestOwn m after n ≡ bestOwn m before n
+  only-best m n = best-same before after n (q .fields n 6 (λ e. omega arith)) m (q .fields n 4 (λ e. omega arith))

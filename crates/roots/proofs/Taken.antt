@@ -127,8 +127,8 @@ module _ (m : ℕ) (work after : List ℕ) (latest n j : ℕ) (small : m ≤ 12)
       go k (no e) = ap olderIn (u .records k e)
 
   -- no word of the tournament is written, and of the slots neither a sum nor a task is
-  pub taken-queue : (k : ℕ) → getD (fieldsAt after k) 5 [] ≡ getD (fieldsAt work k) 5 []
-  taken-queue k = go (ℕ-discrete k n)
+  pub taken-tournament : (k : ℕ) → getD (fieldsAt after k) 5 [] ≡ getD (fieldsAt work k) 5 []
+  taken-tournament k = go (ℕ-discrete k n)
     where
       go : Dec (k ≡ n) → getD (fieldsAt after k) 5 [] ≡ getD (fieldsAt work k) 5 []
       go (yes e) = rw e (same-field 5 (λ z. omega arith))

@@ -27,4 +27,4 @@ pub record PartsAlike (fs gs : List (List ℕ)) : Type 0 where
 -- and the word of the tournament
 pub record SlotsAlike (fs gs : List (List ℕ)) : Type 0 where
   pub parts : PartsAlike fs gs
-  pub queue : getD fs 5 [] ≡ getD gs 5 []
+  pub tournament : getD fs 5 [] ≡ getD gs 5 []

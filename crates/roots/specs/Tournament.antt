@@ -10,7 +10,7 @@ use lib.Dec.{ltb}
 use Rattle.deck.specs.Lists.{countFrom}
 use Rattle.deck.specs.Calls.{taskList}
 use Rattle.meaning.specs.Meaning.{Unbarred}
-use Rattle.records.specs.Record.{fieldsAt, rowIn, queueIn, keyAt}
+use Rattle.records.specs.Record.{fieldsAt, rowIn, tournamentIn, keyAt}
 use Rattle.roots.specs.Slots.{rootsAt, PartsHold}
 use Rattle.roots.specs.Choices.{firstOf, overSlots}
 use Rattle.roots.specs.declared.Choice.{Choice}
@@ -38,11 +38,11 @@ slotChoice k (suc j) = Chosen k j
 
 -- the choice among the slots of number k and those under it
 unfoldable pub winAt : List ℕ → ℕ → Choice
-winAt work k = choiceOf (queueIn (fieldsAt work k) / 16)
+winAt work k = choiceOf (tournamentIn (fieldsAt work k) / 16)
 
 -- the choice among the slots of number k
 unfoldable pub ownAt : List ℕ → ℕ → Choice
-ownAt work k = slotChoice k (queueIn (fieldsAt work k) % 16)
+ownAt work k = slotChoice k (tournamentIn (fieldsAt work k) % 16)
 
 -- past the numbers there is none
 unfoldable pub winBelow : List ℕ → ℕ → ℕ → Choice
@@ -93,13 +93,13 @@ pub record Tournament (m : ℕ) (work : List ℕ) (latest : ℕ) : Type 0 where
 -- WRITES
 
 -- no word of the records of numbers but that of the tournament is written
-pub record Queued (before after : List ℕ) (latest : ℕ) : Type 0 where
+pub record OnlyTournament (before after : List ℕ) (latest : ℕ) : Type 0 where
   pub fields : (k f : ℕ) → f ≢ 5 → getD (fieldsAt after k) f [] ≡ getD (fieldsAt before k) f []
   pub keys : (limit k : ℕ) → latest ≤ limit → keyAt limit after k ≡ keyAt limit before k
 
 -- the word of number k is put anew
 pub record WordPut (before after : List ℕ) (k : ℕ) (win own : Choice) : Type 0 where
-  pub same : Queued before after (k + 1)
+  pub same : OnlyTournament before after (k + 1)
   pub win-here : winAt after k ≡ win
   pub own-here : ownAt after k ≡ own
   pub wins : (i : ℕ) → i ≢ k → winAt after i ≡ winAt before i
@@ -107,20 +107,20 @@ pub record WordPut (before after : List ℕ) (k : ℕ) (win own : Choice) : Type
 
 -- the tournament is played again; each number's own choice is as it was
 pub record Climbed (before after : List ℕ) (latest : ℕ) : Type 0 where
-  pub same : Queued before after latest
+  pub same : OnlyTournament before after latest
   pub own : (k : ℕ) → ownAt after k ≡ ownAt before k
   pub played : Played after latest
 
 -- the own choice of number n is found anew, and the tournament is played again
 pub record Refreshed (m : ℕ) (before after : List ℕ) (latest n : ℕ) : Type 0 where
-  pub same : Queued before after latest
+  pub same : OnlyTournament before after latest
   pub own : ownAt after n ≡ bestOwn m before n
   pub others : (k : ℕ) → k ≢ n → ownAt after k ≡ ownAt before k
   pub played : Played after latest
 
 -- the numbers from `from` to `to` have no choice
 pub record Emptied (before after : List ℕ) (from to : ℕ) : Type 0 where
-  pub same : Queued before after to
+  pub same : OnlyTournament before after to
   pub old-win : (k : ℕ) → k < from → winAt after k ≡ winAt before k
   pub old-own : (k : ℕ) → k < from → ownAt after k ≡ ownAt before k
   pub new-win : (k : ℕ) → from ≤ k → k < to → winAt after k ≡ Nothing
@@ -128,7 +128,7 @@ pub record Emptied (before after : List ℕ) (from to : ℕ) : Type 0 where
 
 -- root `made` has entered the tournament after the numbers below latest, and the own choice of number n is found anew
 pub record Entered (m : ℕ) (before after : List ℕ) (latest made n : ℕ) : Type 0 where
-  pub same : Queued before after (made + 1)
+  pub same : OnlyTournament before after (made + 1)
   pub played : Played after (made + 1)
   pub own : ownAt after made ≡ bestOwn m after made
   pub taken : ownAt after n ≡ bestOwn m after n

@@ -149,7 +149,7 @@ fn own_of(work: &[u32], k: usize) -> Choice
     requires { ⌜ 512 * k + 512 ≤ length (now work) ⌝ }
     ensures { λ r. ⌜ r ≡ ownAt (now (work .entry)) k ⌝ }
 {
-    let own = records::queue_of(work, k) % 16;
+    let own = records::tournament_of(work, k) % 16;
     if own == 0 {
         return Choice::Nothing;
     }
@@ -164,7 +164,7 @@ fn win_of(work: &[u32], latest: usize, k: usize) -> Choice
     if latest <= k {
         return Choice::Nothing;
     }
-    choice_of(records::queue_of(work, k) / 16)
+    choice_of(records::tournament_of(work, k) / 16)
 }
 
 // The first of two choices.
@@ -197,7 +197,7 @@ fn put_word(work: &mut [u32], k: usize, win: Choice, own: Choice)
 {
     let a = code_of(win);
     let b = slot_code(own);
-    records::set_queue(work, k, 16 * a + b);
+    records::set_tournament(work, k, 16 * a + b);
 }
 
 // Stores the first of the choices at number k.

@@ -9,14 +9,14 @@ use Rattle.roots.proofs.win_of.Tie as tie
 returns : tie.Need-returns
 returns c = sym (below-no (now (c .before .before .args .work)) (c .before .before .args .k) (c .before .before .args .latest) (c .if1 .taken))
 
-queue-of-requires : tie.Need-queue-of-requires
-queue-of-requires c κs = search needs
+tournament-of-requires : tie.Need-tournament-of-requires
+tournament-of-requires c κs = search needs
 
 choice-of-requires : tie.Need-choice-of-requires
 choice-of-requires c κs = search needs
 
 returns-2 : tie.Need-returns-2
-returns-2 c = win-read (now (c .before .before .before .before .args .work)) (c .before .before .before .before .args .k) (c .before .before .before .before .args .latest) _ _ (c .before .before .if1 .left) (c .before .queue-of .ensures) (c .choice-of .ensures)
+returns-2 c = win-read (now (c .before .before .before .before .args .work)) (c .before .before .before .before .args .k) (c .before .before .before .before .args .latest) _ _ (c .before .before .if1 .left) (c .before .tournament-of .ensures) (c .choice-of .ensures)
 
 pub win-of-spec : {M : Type 1} → statement M
-win-of-spec = tie.close (tie.spec returns queue-of-requires choice-of-requires returns-2)
+win-of-spec = tie.close (tie.spec returns tournament-of-requires choice-of-requires returns-2)

@@ -1,11 +1,11 @@
--- `set_queue` meets its contract: word 31 of the record. Assumes nothing.
+-- `set_tournament` meets its contract: word 31 of the record. Assumes nothing.
 use Prim.Native.Nat.{_+_, _*_}
 use native.Mathlib.Omega.{arith}
 use denote.Ref.{now}
 use borrow.Author.Needs.{needs}
-use Rattle.records.proofs.Writes.{queue-wrote}
-use Rattle.records.proofs.set_queue.Statement.{statement}
-use Rattle.records.proofs.set_queue.Tie as tie
+use Rattle.records.proofs.Writes.{tournament-wrote}
+use Rattle.records.proofs.set_tournament.Statement.{statement}
+use Rattle.records.proofs.set_tournament.Tie as tie
 
 word-requires : tie.Need-word-requires
 word-requires c κs = search needs
@@ -29,9 +29,9 @@ returns : tie.Need-returns
 returns c =
     let args = c .before .before .args in
     let pre = c .before .before .pre in
-    queue-wrote (now (args .work)) (args .n) (args .v) _ (pre .0) (pre .1) (c .word .ensures)
+    tournament-wrote (now (args .work)) (args .n) (args .v) _ (pre .0) (pre .1) (c .word .ensures)
 
-pub set-queue-spec : {M : Type 1} → statement M
-set-queue-spec =
+pub set-tournament-spec : {M : Type 1} → statement M
+set-tournament-spec =
     tie.close
     (tie.spec word-requires mul-work add-work mul-work-2 slice-write-work same-length returns)
