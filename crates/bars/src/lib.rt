@@ -1,16 +1,15 @@
 // Places of the padded grid, and the constraints of one carrier in chains by time: for each time the last record, for each record the one before it. So a
 // layer's constraints are found without a look at the others, be there 50 or 4096.
 ghost use mathlib.Core.Path.{_≡_};
-ghost use mathlib.Core.Bool.{Bool, cond};
-ghost use mathlib.Core.List.{List};
+ghost use mathlib.Core.Bool.{cond};
 ghost use Prim.Native.Nat.{ℕ, suc, _+_, _*_, _/_, _<_, _≤_};
-ghost use lib.ListN.{length, getD};
+ghost use lib.ListN.{length};
 ghost use lib.Dec.{eqb};
 ghost use Rattle.deck.specs.Sheet.{carrier};
 ghost use Rattle.deck.specs.Calls.{recordWord, constraintAt, constraintsOf};
 ghost use Rattle.kernel.specs.Parts.{freeMove, freePlace, stayAfter, stayFrom};
 ghost use Rattle.bars.specs.Padded.{padOf};
-ghost use Rattle.bars.specs.Bars.{countIn, Linked, Chained, Timely, OnLayer, Cleared, wayOf, slotOf, moveSlot, placeSlot, movesFrom, standsOn};
+ghost use Rattle.bars.specs.Bars.{countIn, Chained, Timely, OnLayer, Cleared, wayOf, slotOf, moveSlot, placeSlot, movesFrom, standsOn};
 
 // The padded number of the place v.
 pub fn pad(w: usize, v: usize) -> usize

@@ -39,6 +39,7 @@ use Rattle.nodes.specs.Stored.{Fits, Good, Linked, Stored, Added, ChildOf}
 use Rattle.nodes.proofs.Chains.{stored-links, stored-linked, constraints-good, chain-few}
 use Rattle.nodes.proofs.Gathers.{records-of}
 use Rattle.nodes.proofs.Grid.{least-bound, least-walk, walk-long}
+use Rattle.nodes.proofs.Makes.{good-bound}
 use Rattle.nodes.proofs.Readers.{accepted-fits, good-small, task-read, finish-read, good-records}
 use Rattle.nodes.proofs.Kept.{front-alike, front-keys, kept-stored, kept-nodes, kept-opened}
 use Rattle.roots.proofs.Begun.{slots-kept-records}
@@ -68,10 +69,6 @@ module _ (d : Sheet) (l : d .limit ≤ 4096) (before after : List ℕ) (made lat
       record { nodes = kept-nodes d (d .limit) before after made (h .stored) (front-alike before after (d .limit) made (h .within) l e) keys; keys = keys }
 
 -- THE SHEET
-good-bound : (d : Sheet) (c : Constraint) → Good d c → boundBy c < d .count
-good-bound d (Place a u t) g = g .0
-good-bound d (Move a u v t) g = g .0
-
 good-fit : (d : Sheet) (c : Constraint) → Good d c → Fit d c
 good-fit d (Place a u t) g = g
 good-fit d (Move a u v t) g = g

@@ -1,8 +1,8 @@
 -- What the workspace holds of the search's state, and what making nodes comes to. Assumes nothing.
-use Prim.Native.Nat.{ℕ, suc, _+_, _<_, _≤_}
+use Prim.Native.Nat.{ℕ, _+_, _<_, _≤_}
 use mathlib.Core.Path.{_≡_}
-use mathlib.Core.List.{List, [], _∷_}
-use lib.ListN.{length, getD}
+use mathlib.Core.List.{List}
+use lib.ListN.{length}
 use Rattle.deck.specs.Sheet.{Sheet, read, cause}
 use Rattle.deck.specs.Assignments.{tableOf}
 use Rattle.deck.specs.Search.{Node, State, Turn, done, more, spent}
@@ -12,11 +12,10 @@ use Rattle.deck.specs.declared.Constraint.{Constraint}
 use Rattle.meaning.specs.Meaning.{Unbarred}
 use Rattle.bars.specs.Padded.{MaskOf}
 use Rattle.prices.specs.Square.{copied}
-use Rattle.records.specs.Record.{fieldsAt, keyAt}
+use Rattle.records.specs.Record.{keyAt}
 use Rattle.nodes.specs.Nodes.{nodeAt, openedAt}
 use Rattle.nodes.specs.Stored.{Stored, RootSoFar}
 use Rattle.roots.specs.Tournament.{SlotsHold}
-use Rattle.roots.specs.Begun.{SlotsAlike}
 use Rattle.optimal.proofs.Deck.{rules}
 use Rattle.optimal.proofs.Nodes.{InOrder}
 use Rattle.scratch.specs.Bounded.{Bounded}

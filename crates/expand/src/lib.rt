@@ -1,7 +1,6 @@
 // Making the nodes of an expansion in the workspace: the root of the next assignment, the children of a node.
 use deck::Carrier;
 use deck::PathAnswer;
-use deck::Task;
 use nodes::Child;
 use roots::Choice;
 ghost use mathlib.Core.Path.{_≡_};
@@ -9,8 +8,8 @@ ghost use mathlib.Core.List.{List, [], _∷_};
 ghost use Prim.Native.Nat.{ℕ, suc, _+_, _*_, _<_, _≤_};
 ghost use lib.ListN.{length, take};
 ghost use Rattle.deck.specs.Lists.{each, select};
-ghost use Rattle.deck.specs.Sheet.{read, countOf, cause};
-ghost use Rattle.deck.specs.Search.{State, rootOf, restAfter, Node};
+ghost use Rattle.deck.specs.Sheet.{read, countOf};
+ghost use Rattle.deck.specs.Search.{State, rootOf, restAfter};
 ghost use Rattle.deck.specs.Planner.{problem, boundBy};
 ghost use Rattle.deck.specs.Calls.{pathFound, pathWritten};
 ghost use Rattle.deck.specs.declared.Constraint.{Constraint};

@@ -4,8 +4,7 @@
 use deck::Carrier;
 use deck::Task;
 ghost use mathlib.Core.Path.{_≡_};
-ghost use mathlib.Core.Bool.{true, false, cond};
-ghost use mathlib.Core.List.{List};
+ghost use mathlib.Core.Bool.{true, false};
 ghost use Prim.Native.Nat.{ℕ, suc, _+_, _≤_, _<_, _^_};
 ghost use lib.ListN.{length};
 ghost use Rattle.meaning.specs.Meaning.{_at_};

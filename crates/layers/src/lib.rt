@@ -1,8 +1,7 @@
 // Layers of labels on a padded grid: one byte for each padded place, the step from one layer to the next, and the layers that
 // are kept, four bytes to a word.
 ghost use mathlib.Core.Path.{_≡_};
-ghost use mathlib.Core.List.{List};
-ghost use Prim.Native.Nat.{ℕ, suc, _+_, _-_, _*_, _/_, _<_, _≤_, max, min};
+ghost use Prim.Native.Nat.{_+_, _-_, _*_, _/_, _<_, _≤_, max, min};
 ghost use lib.ListN.{length, getD};
 ghost use Rattle.deck.specs.Sheet.{carrier};
 ghost use Rattle.deck.specs.Calls.{constraintsOf};

@@ -3,7 +3,7 @@ use mathlib.Core.Path.{_≡_, refl, sym, _∙_, ap, ap₂}
 use mathlib.Core.Bool.{true, false}
 use mathlib.Core.List.{List, [], _∷_, _++_, map, append-assoc, append-nil}
 use Prim.Native.Nat.{ℕ, suc, _+_, _*_, _-_, _/_, _%_, _<_, _≤_}
-use native.Mathlib.Nat.{mod-eq-of-lt, add-zero, zero-add}
+use native.Mathlib.Nat.{add-zero, zero-add}
 use native.Mathlib.Omega.{arith}
 use lib.ListN.{length, getD, take, drop, length-append, List·getD-append}
 use lib.Seq.{take-at, length-take-le, getD-append-add}
@@ -14,6 +14,7 @@ use Rattle.deck.specs.Calls.{constraintsOf, constraintAt, recordWord}
 use Rattle.deck.specs.declared.Carrier.{Carrier}
 use Rattle.deck.specs.declared.Constraint.{Constraint}
 use Rattle.deck.specs.declared.Constraint.the-variants.{Place, Move}
+use Rattle.pack.proofs.Loops.{low16}
 use Rattle.records.specs.Cut.{put}
 use Rattle.records.specs.Record.{fieldsAt, linkIn, ownIn, headIn, constraintIn, wordsOf, Small}
 use Rattle.records.specs.declared.NodeHead.{NodeHead}
@@ -24,9 +25,6 @@ use Rattle.nodes.proofs.Tables.{map-same, map-append, count-snoc, selec
 use Rattle.nodes.proofs.Chains.{Links, chain-up, chain-root}
 
 -- WORDS OF 16 BITS
-low16 : (x r : ℕ) → x < 65536 → r ≡ x % 65536 → r ≡ x
-low16 x r h e = e ∙ mod-eq-of-lt h
-
 pub place-words : (c : Constraint) (a : Carrier) (u t i u′ t′ : ℕ) → c ≡ Place a u t → Small c → i ≡ a .0 % 65536 → u′ ≡ u % 65536 → t′ ≡ t % 65536
     → 0 ∷ i ∷ u′ ∷ 0 ∷ t′ ∷ [] ≡ wordsOf c
 unfolding wordsOf

@@ -31,7 +31,7 @@ use Rattle.nodes.proofs.Tables.{map-same, map-set}
 use Rattle.nodes.proofs.Grid.{least-walk}
 use Rattle.nodes.proofs.Adds.{added, PathSet, finish-here, finish-other, finishes-long, path-other, path-here}
 
-good-bound : (d : Sheet) (c : Constraint) → Good d c → boundBy c < d .count
+pub good-bound : (d : Sheet) (c : Constraint) → Good d c → boundBy c < d .count
 good-bound d (Place a u t) g = g .0
 good-bound d (Move a u v t) g = g .0
 

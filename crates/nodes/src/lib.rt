@@ -1,17 +1,15 @@
 // The nodes of the search in the lent workspace, as the nodes of the search's definition: the choice of the next one, the
 // constraints along its links, its paths as places, and the making of roots and children.
 ghost use mathlib.Core.Path.{_≡_};
-ghost use mathlib.Core.List.{List, [], _∷_, _++_};
+ghost use mathlib.Core.List.{List, [], _∷_};
 ghost use Prim.Native.Nat.{ℕ, _+_, _*_, _-_, _<_, _≤_, _%_, min};
-ghost use lib.ListN.{length, getD, take};
+ghost use lib.ListN.{length, take};
 ghost use Rattle.deck.specs.Lists.{sum, flat};
 ghost use Rattle.deck.specs.Sheet.{Sheet};
 ghost use Rattle.deck.specs.Search.{rootOf, childNode};
 ghost use Rattle.deck.specs.Planner.{problem, boundBy};
 ghost use Rattle.deck.specs.Calls.{overwrite};
-ghost use Rattle.pack.specs.Pack.{unpackOf};
-ghost use Rattle.records.specs.Cut.{part};
-ghost use Rattle.records.specs.Record.{fieldsAt, finishesIn, packedIn, wordsOf, Small, withKey, closedKey};
+ghost use Rattle.records.specs.Record.{fieldsAt, finishesIn, wordsOf, Small, withKey, closedKey};
 ghost use Rattle.nodes.specs.Nodes.{LeastTo, FirstOf, LeastIn, FirstIn, blockEnd, Lows, Cheapest, InRange, Appended, Gathered, pathsIn, nodeAt};
 ghost use Rattle.nodes.specs.Stored.{Fits, Linked, Stored, Added, ChildOf, RootSoFar};
 use deck::Carrier;

@@ -1,8 +1,8 @@
 // A path in twenty words: a step is a digit of base 5, thirteen to a word, the first step of a word the lowest digit.
 // All twenty words are written, so that two packings of one path are equal word by word.
 ghost use mathlib.Core.Path.{_≡_};
-ghost use Prim.Native.Nat.{ℕ, _+_, _*_, _-_, _<_, _≤_, _%_, min};
-ghost use lib.ListN.{length, getD};
+ghost use Prim.Native.Nat.{_+_, _*_, _-_, _<_, _≤_, _%_, min};
+ghost use lib.ListN.{length};
 ghost use Rattle.pack.specs.Pack.{tab, digitOf, stepAt, value, packOf, placeFrom, unpackOf};
 
 fn wide(x: u16) -> usize

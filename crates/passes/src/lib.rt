@@ -3,19 +3,18 @@
 use deck::Carrier;
 use deck::Task;
 ghost use mathlib.Core.Path.{_≡_};
-ghost use mathlib.Core.Bool.{Bool, _&&_};
-ghost use mathlib.Core.List.{List, reverse};
-ghost use Prim.Native.Nat.{ℕ, suc, _+_, _-_, _*_, _<_, _≤_};
+ghost use mathlib.Core.Bool.{_&&_};
+ghost use mathlib.Core.List.{reverse};
+ghost use Prim.Native.Nat.{ℕ, _+_, _-_, _*_, _<_, _≤_};
 ghost use lib.ListN.{length, getD};
 ghost use lib.Dec.{leb, ltb};
-ghost use Rattle.deck.specs.Sheet.{Sheet, read, startOf, goalsOf, cause};
+ghost use Rattle.deck.specs.Sheet.{read, startOf, goalsOf, cause};
 ghost use Rattle.deck.specs.Calls.{constraintsOf};
 ghost use Rattle.kernel.specs.Kernel.{hind, LeastTime};
 ghost use Rattle.bars.specs.Padded.{Holds};
-ghost use Rattle.bars.specs.Bars.{countIn, Chained};
-ghost use Rattle.layers.specs.Raise.{GoalsAt};
+ghost use Rattle.bars.specs.Bars.{Chained};
 ghost use Rattle.layers.specs.Step.{Margin};
-ghost use Rattle.passes.specs.Ready.{Ready, Goals, Turned, Early, roomFor, layerAt, Backed};
+ghost use Rattle.passes.specs.Ready.{Ready, Goals, Turned, Early, roomFor, Backed};
 
 fn wide8(x: u8) -> usize
     ensures { λ r. ⌜ (r ≡ x) × (r < 256) ⌝ }

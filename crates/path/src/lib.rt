@@ -4,11 +4,10 @@ use deck::Carrier;
 use deck::PathAnswer;
 use deck::Task;
 ghost use mathlib.Core.Path.{_≡_};
-ghost use mathlib.Core.Bool.{Bool, true};
-ghost use mathlib.Core.List.{List};
+ghost use mathlib.Core.Bool.{true};
 ghost use Prim.Native.Nat.{ℕ, suc, _+_, _-_, _*_, _<_, _≤_};
 ghost use lib.ListN.{length, getD};
-ghost use Rattle.deck.specs.Sheet.{Sheet, read, cause};
+ghost use Rattle.deck.specs.Sheet.{read, cause};
 ghost use Rattle.deck.specs.Paths.{leastPath};
 ghost use Rattle.deck.specs.Calls.{constraintsOf, pathFound, pathWritten, PathCall};
 ghost use Rattle.kernel.specs.Kernel.{LeastTime, NoEarlier};
@@ -16,7 +15,7 @@ ghost use Rattle.bars.specs.Padded.{MaskOf};
 ghost use Rattle.bars.specs.Bars.{Chained};
 ghost use Rattle.layers.specs.Fill.{Filled};
 ghost use Rattle.passes.specs.Ready.{Ready, Goals, Turned, Early, roomFor, Backed};
-ghost use Rattle.path.specs.Mask.{shadeOf, Masked};
+ghost use Rattle.path.specs.Mask.{shadeOf};
 
 fn shade(b: u8) -> u8
     ensures { λ r. ⌜ r ≡ shadeOf b ⌝ }

@@ -2,11 +2,9 @@
 use deck::Carrier;
 use deck::Task;
 ghost use mathlib.Core.Path.{_≡_};
-ghost use mathlib.Core.Bool.{Bool};
-ghost use mathlib.Core.List.{List};
-ghost use Prim.Native.Nat.{ℕ, _+_, _*_, _/_, _%_, _<_, _≤_};
-ghost use lib.ListN.{length, getD};
-ghost use Rattle.deck.specs.Sheet.{Sheet, read, area, cause};
+ghost use Prim.Native.Nat.{_+_, _*_, _/_, _%_, _<_};
+ghost use lib.ListN.{length};
+ghost use Rattle.deck.specs.Sheet.{read, cause};
 ghost use Rattle.deck.specs.Calls.{recordWord, goodTail, goodRecord, goodRecords, pathCause};
 
 fn wide(x: u16) -> usize

@@ -3,17 +3,17 @@
 use Prim.Native.Nat.{ℕ, zero, suc, _+_, _<_, _≤_}
 use mathlib.Core.Path.{_≡_, refl, sym, ap, _∙_}
 use mathlib.Core.Logic.{_≢_}
-use mathlib.Core.Bool.{Bool, true, false, not, false≢true}
+use mathlib.Core.Bool.{true, false, not, false≢true}
 use mathlib.Core.List.{List, [], _∷_}
 use mathlib.Core.Option.{Option, none, some}
 use native.Mathlib.Decide.{ℕ-discrete, decLe}
 use native.Mathlib.Omega.{arith}
-use lib.Dec.{T, leb, leb→le}
+use lib.Dec.{leb, leb→le}
 use lib.ListN.{length, getD, set, List·getD-eq-default}
 use lib.Seq.{getD-set-same, getD-set-other}
 use borrow.Author.Tests.{le-leb, lt-leb}
 use Rattle.deck.specs.Lists.{flat, headOf}
-use Rattle.deck.specs.Sheet.{Sheet, read, cause, unless, _orElse_}
+use Rattle.deck.specs.Sheet.{Sheet, read, cause}
 use Rattle.deck.specs.Assignments.{assignmentsInOrder, leastAssignment, tableOf}
 use Rattle.deck.specs.Search.{Answer, noPlan, spent, searchFrom, searched, cheapest}
 use Rattle.deck.specs.Planner.{problem, planFor}

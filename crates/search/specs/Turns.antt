@@ -1,10 +1,10 @@
 -- What a turn and the end of the search on the workspace are to the definition's. Assumes nothing.
-use Prim.Native.Nat.{ℕ, _<_, _≤_}
+use Prim.Native.Nat.{ℕ, _<_}
 use mathlib.Core.Path.{_≡_}
 use mathlib.Core.List.{List}
 use lib.ListN.{getD}
-use Rattle.deck.specs.Sheet.{Sheet, read}
-use Rattle.deck.specs.Search.{State, Turn, done, more, Answer, plan, noPlan, spent, cheapest, turn}
+use Rattle.deck.specs.Sheet.{Sheet}
+use Rattle.deck.specs.Search.{State, Turn, done, more, Answer, plan, noPlan, spent, turn}
 use Rattle.deck.specs.Planner.{problem}
 use Rattle.deck.specs.Calls.{taskList}
 use Rattle.deck.specs.declared.Constraint.{Constraint}

@@ -10,7 +10,7 @@ use turns::End;
 ghost use mathlib.Core.Path.{_≡_};
 ghost use mathlib.Core.List.{List};
 ghost use mathlib.Core.Option.{some};
-ghost use Prim.Native.Nat.{ℕ, suc, _+_, _*_, _<_, _≤_};
+ghost use Prim.Native.Nat.{ℕ, _+_, _*_, _<_, _≤_};
 ghost use lib.ListN.{length};
 ghost use Rattle.deck.specs.Sheet.{read, countOf, cause};
 ghost use Rattle.deck.specs.Assignments.{leastAssignment, tableOf};

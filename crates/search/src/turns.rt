@@ -1,5 +1,4 @@
 // The turns of the search on the workspace.
-use deck::Carrier;
 use deck::Collision;
 use deck::CollisionAnswer;
 use deck::Constraint;
@@ -8,7 +7,7 @@ use nodes::Child;
 use nodes::Pick;
 ghost use mathlib.Core.Path.{_≡_};
 ghost use mathlib.Core.List.{List, [], _∷_};
-ghost use Prim.Native.Nat.{ℕ, suc, _+_, _*_, _<_, _≤_};
+ghost use Prim.Native.Nat.{ℕ, _+_, _*_, _<_, _≤_};
 ghost use lib.ListN.{length};
 ghost use Rattle.deck.specs.Sheet.{read, countOf, cause};
 ghost use Rattle.deck.specs.Search.{State, rootOf, restAfter, turn, cheapest};

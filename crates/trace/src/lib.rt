@@ -3,12 +3,11 @@
 use deck::Carrier;
 use deck::Task;
 ghost use mathlib.Core.Path.{_≡_};
-ghost use mathlib.Core.Bool.{Bool, _&&_};
-ghost use mathlib.Core.List.{List};
-ghost use Prim.Native.Nat.{ℕ, suc, _+_, _-_, _*_, _%_, _<_, _≤_};
-ghost use lib.ListN.{length, getD};
+ghost use mathlib.Core.Bool.{_&&_};
+ghost use Prim.Native.Nat.{suc, _+_, _-_, _*_, _%_, _<_, _≤_};
+ghost use lib.ListN.{length};
 ghost use lib.Dec.{leb, ltb};
-ghost use Rattle.deck.specs.Sheet.{Sheet, read, goalsOf};
+ghost use Rattle.deck.specs.Sheet.{read};
 ghost use Rattle.deck.specs.Calls.{constraintsOf, overwrite};
 ghost use Rattle.kernel.specs.Layers.{firstOf};
 ghost use Rattle.kernel.specs.Near.{near};

@@ -1,6 +1,4 @@
 -- `set_tournament` meets its contract: word 31 of the record. Assumes nothing.
-use Prim.Native.Nat.{_+_, _*_}
-use native.Mathlib.Omega.{arith}
 use denote.Ref.{now}
 use borrow.Author.Needs.{needs}
 use Rattle.records.proofs.Writes.{tournament-wrote}
