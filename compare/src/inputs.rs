@@ -119,7 +119,8 @@ pub fn roots_alone() -> Vec<u8> {
     let apart: Vec<usize> = (0..10).map(|i| (3 + 3 * (i / 4)) * side + 2 + 3 * (i % 4)).collect();
     let starts = [0, 1].into_iter().chain(apart.iter().copied()).collect();
     let to_and_fro = |first: usize| (first..first + 8).map(|goal| goal % 2).collect();
-    let tasks = [to_and_fro(1), to_and_fro(0)].into_iter().chain(apart.iter().map(|&place| vec![place])).collect();
+    let tasks =
+        [to_and_fro(1), to_and_fro(0)].into_iter().chain(apart.iter().map(|&place| vec![place])).collect();
     Draft { w: side, h: side, horizon: 7, limit: 4096, grid, starts, tasks }.bytes()
 }
 

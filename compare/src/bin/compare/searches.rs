@@ -1,7 +1,7 @@
 //! Whole searches: every kind of sheet, several node limits, a workspace that holds anything, buffers that are exact, larger and
 //! one word short; and on tiny sheets the least flowtime of any plan, by another method.
 
-use compare::inputs::{any, junk, with_limit, Map, PLENTY};
+use compare::inputs::{any, junk, roots_alone, stuck, with_limit, Map, PLENTY};
 use compare::search;
 use deckref::gen::{self, Rng};
 use deckref::naive;
@@ -67,6 +67,16 @@ pub fn run(share: &Share) -> Tally {
             let map = Map { side, blocked, carriers: 10, goals: 2, horizon, limit: 600 };
             let bytes = map.sheet(&mut Rng::new(300 + seed));
             one(&mut tally, &mut lent, &bytes, 0, 0, &|| format!("map {side} {blocked} {seed}"));
+        }
+    }
+    // Many roots, among children and alone.
+    for seed in share.seeds(60) {
+        let mut rng = Rng::new(900 + seed);
+        let (side, horizon) = (rng.range(5, 20), rng.range(2, 60));
+        let (among, limit) = (stuck(side, horizon, &mut rng), rng.range(1, 4096) as u16);
+        for (name, bytes) in [("among children", among), ("alone", roots_alone())] {
+            let bytes = with_limit(&bytes, limit);
+            one(&mut tally, &mut lent, &bytes, 0, 0, &|| format!("roots {name} {seed}, limit {limit}"));
         }
     }
     tally
