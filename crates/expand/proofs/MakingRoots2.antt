@@ -23,15 +23,14 @@ use Rattle.partition.proofs.Candidates.{Candidate, candidate-meant}
 use Rattle.records.specs.Record.{fieldsAt, rootIn}
 use Rattle.nodes.specs.Nodes.{nodeAt}
 use Rattle.nodes.proofs.Readers.{root-read, accepted-fits}
-use Rattle.roots.specs.Slots.{slotOf, slotsAt, Older}
-use Rattle.roots.specs.Choices.{Live, ChosenOf}
-use Rattle.roots.specs.Tournament.{Tournament, SlotsHold, NextTaken}
+use Rattle.roots.specs.Slots.{slotOf, slotsAt}
+use Rattle.roots.specs.Tournament.{SlotsHold, FirstSlot, NextTaken}
 use Rattle.roots.specs.Begun.{RootBegun}
 use Rattle.roots.specs.declared.Choice.{Choice}
 use Rattle.roots.specs.declared.Choice.the-variants.{Nothing, Slot as Chosen}
 use Rattle.roots.proofs.Chosen.{live-slot}
 use Rattle.roots.proofs.Begun.{begun-stored, begun-nodes, begun-opened}
-use Rattle.roots.proofs.Made.{slots-older, nothing-left}
+use Rattle.roots.proofs.Made.{nothing-left}
 use Rattle.expand.specs.Held.{Given, Nodes, Held, Begun, Same, Grew}
 use Rattle.expand.specs.declared.Grown.the-variants.{Made, Spent}
 use Rattle.expand.proofs.MakingRoots.{room-keys}
@@ -85,28 +84,19 @@ module _ {s mask table work bounds : List ℕ} (g : Given s mask table work boun
         subst (λ (x : ℕ). SlotsHold x (copied x table) work latest (st .rest)) (sym em)
         (subst (λ (t : List ℕ). SlotsHold (read s .count) t work latest (st .rest)) (sym (g .table-is)) (H .slots))
 
-    pub slots-fall : Older work latest
-    slots-fall = slots-older m (copied m table) work latest (st .rest) slots-asked
-
-    pub slots-played : Tournament m work latest
-    slots-played = slots-asked .tournament
-
     -- without a slot no assignment remains
-    pub without-slot : (r : Choice) → ChosenOf m work latest (slotsAt m work latest) r → r ≡ Nothing → st .rest ≡ []
-    without-slot r c e = nothing-left m (copied m table) work latest (st .rest) slots-asked few-carriers (subst (ChosenOf m work latest (slotsAt m work latest)) e c)
+    pub without-slot : (r : Choice) → FirstSlot m work latest r → r ≡ Nothing → st .rest ≡ []
+    without-slot r c e = nothing-left m (copied m table) work latest (st .rest) few-carriers slots-asked (subst (FirstSlot m work latest) e c)
 
     -- with one, one remains: the first assignment of the slot's part
-    pub with-slot : (r : Choice) (n j : ℕ) → ChosenOf m work latest (slotsAt m work latest) r → r ≡ Chosen n j → (a : List ℕ) × (others : List (List ℕ)) × (st .rest ≡ a ∷ others)
+    pub with-slot : (r : Choice) (n j : ℕ) → FirstSlot m work latest r → r ≡ Chosen n j → (a : List ℕ) × (others : List (List ℕ)) × (st .rest ≡ a ∷ others)
     with-slot r n j c e = go (st .rest) remains
       where
-        live : Live m work latest n j
-        live = subst (ChosenOf m work latest (slotsAt m work latest)) e c .0
-
         slot : Slot
         slot = slotOf m (fieldsAt work n) j
 
-        inside : Mem slot (slotsAt m work latest)
-        inside = live-slot m work latest n j live
+        inside : Mem slot (slotsAt m work (slots-asked .roots))
+        inside = live-slot m work (slots-asked .roots) n j (subst (FirstSlot m work latest) e c (copied m table) (st .rest) slots-asked .0)
 
         first : Candidate m (copied m table) (slot .part) (some (slot .first))
         first = subst (Candidate m (copied m table) (slot .part)) (slots-asked .parts .holds .right slot inside) (candidate-meant m (copied m table) (slot .part))

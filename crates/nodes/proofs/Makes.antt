@@ -172,10 +172,10 @@ module _ (d : Sheet) where
       }
 
   -- no path is written
-  pub root-begun : (before after : List ℕ) (n : ℕ) (a : List ℕ) (row : ℕ) (closed : List ℕ) (older : ℕ) → length a ≡ d .count → ((k : ℕ) → getD a k 0 < 256) → Wrote before after n (rootFields (taskList a) row closed older)
+  pub root-begun : (before after : List ℕ) (n : ℕ) (a : List ℕ) (row : ℕ) (closed : List ℕ) → length a ≡ d .count → ((k : ℕ) → getD a k 0 < 256) → Wrote before after n (rootFields (taskList a) row closed)
       → RootSoFar d after n a 0
   unfolding rootFields
-  root-begun before after n a row closed older l b u =
+  root-begun before after n a row closed l b u =
       record {
         link = rw (u .here);
         own = rw (u .here) (omega arith);

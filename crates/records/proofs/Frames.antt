@@ -31,7 +31,7 @@ module _ (work ys : List ℕ) (n j k : ℕ) (e : length ys ≡ k) (b : j + k ≤
       sym (getD-drop (512 * limit) (put (512 * n + j) k ys work) m 0) ∙ ap (λ (l : List ℕ). getD l m 0) d ∙ getD-drop (512 * limit) work m 0
 
 -- words put anew inside field f of record n
-pub wrote : (work ys : List ℕ) (n f j k o : ℕ) → f < 11 → j + k ≤ getD layout f 0 → length ys ≡ k → 512 * n + 512 ≤ length work → o ≡ 512 * n + (offset layout f + j)
+pub wrote : (work ys : List ℕ) (n f j k o : ℕ) → f < 10 → j + k ≤ getD layout f 0 → length ys ≡ k → 512 * n + 512 ≤ length work → o ≡ 512 * n + (offset layout f + j)
     → Wrote work (put o k ys work) n (set (fieldsAt work n) f (put j k ys (getD (fieldsAt work n) f [])))
 unfolding fieldsAt fields
 wrote work ys n f j k o g b e h q =
@@ -46,7 +46,7 @@ wrote work ys n f j k o g b e h q =
     })
 
 -- a word stored in field f of record n
-pub wrote-word : (work : List ℕ) (n f j v o : ℕ) → f < 11 → j < getD layout f 0 → 512 * n + 512 ≤ length work → o ≡ 512 * n + (offset layout f + j)
+pub wrote-word : (work : List ℕ) (n f j v o : ℕ) → f < 10 → j < getD layout f 0 → 512 * n + 512 ≤ length work → o ≡ 512 * n + (offset layout f + j)
     → Wrote work (set work o v) n (set (fieldsAt work n) f (put j 1 (v ∷ []) (getD (fieldsAt work n) f [])))
 wrote-word work n f j v o g b h q =
     rw (set-put work o v (omega (arith, offset-sum layout f)))
@@ -76,7 +76,7 @@ pub wrote-as : (a b c : List ℕ) (n : ℕ) (fs gs : List (List ℕ)) → b ≡ 
 wrote-as a b c n fs gs e g w = rw (e, ← g) w
 
 -- word j of field f
-pub read-word : (work : List ℕ) (n f j o : ℕ) → f < 11 → j < getD layout f 0 → o ≡ 512 * n + (offset layout f + j)
+pub read-word : (work : List ℕ) (n f j o : ℕ) → f < 10 → j < getD layout f 0 → o ≡ 512 * n + (offset layout f + j)
     → getD work o 0 ≡ getD (getD (fieldsAt work n) f []) j 0
 unfolding fieldsAt fields
 read-word work n f j o g b q =
@@ -84,7 +84,7 @@ read-word work n f j o g b q =
     (sym (part-get (512 * n) 512 (offset layout f + j) work (omega (arith, offset-sum layout f))))
 
 -- k words of field f from j on
-pub read-part : (work : List ℕ) (n f j k o : ℕ) → f < 11 → j + k ≤ getD layout f 0 → o ≡ 512 * n + (offset layout f + j)
+pub read-part : (work : List ℕ) (n f j k o : ℕ) → f < 10 → j + k ≤ getD layout f 0 → o ≡ 512 * n + (offset layout f + j)
     → part o k work ≡ part j k (getD (fieldsAt work n) f [])
 unfolding fieldsAt fields
 read-part work n f j k o g b q =
@@ -92,7 +92,7 @@ read-part work n f j k o g b q =
     (sym (part-part (512 * n) 512 (offset layout f + j) k work (omega (arith, offset-sum layout f))))
 
 -- the length of field f
-pub length-field : (work : List ℕ) (n f : ℕ) → f < 11 → 512 * n + 512 ≤ length work → length (getD (fieldsAt work n) f []) ≡ getD layout f 0
+pub length-field : (work : List ℕ) (n f : ℕ) → f < 10 → 512 * n + 512 ≤ length work → length (getD (fieldsAt work n) f []) ≡ getD layout f 0
 unfolding fieldsAt fields
 length-field work n f g h =
     rw (cut-at layout f (part (512 * n) 512 work) g)
@@ -129,13 +129,13 @@ key-front a b limit k l e = sym (front a) ∙ ap (λ (t : List ℕ). getD t (512
     front w = getD-take (512 * limit + 4096) w (512 * limit + k) 0 (omega arith)
 
 -- k words of field f from j on, lent as the part from o to e; and all of them
-pub lent-field : (work : List ℕ) (n f j k o e : ℕ) → f < 11 → j + k ≤ getD layout f 0 → o ≡ 512 * n + (offset layout f + j) → e ≡ o + k
+pub lent-field : (work : List ℕ) (n f j k o e : ℕ) → f < 10 → j + k ≤ getD layout f 0 → o ≡ 512 * n + (offset layout f + j) → e ≡ o + k
     → part o (e - o) work ≡ part j k (getD (fieldsAt work n) f [])
 lent-field work n f j k o e g b q r =
     let d : e - o ≡ k = omega arith in
     rw d (read-part work n f j k o g b q)
 
-pub whole-field : (work : List ℕ) (n f : ℕ) → f < 11 → 512 * n + 512 ≤ length work → part 0 (getD layout f 0) (getD (fieldsAt work n) f []) ≡ getD (fieldsAt work n) f []
+pub whole-field : (work : List ℕ) (n f : ℕ) → f < 10 → 512 * n + 512 ≤ length work → part 0 (getD layout f 0) (getD (fieldsAt work n) f []) ≡ getD (fieldsAt work n) f []
 whole-field work n f g h = take-all (getD layout f 0) (getD (fieldsAt work n) f []) (omega (arith, length-field work n f g h))
 
 -- word k of slot j
@@ -143,7 +143,7 @@ pub slot-word : (fs : List (List ℕ)) (j k o : ℕ) → k < 14 → o ≡ 14 * j
 slot-word fs j k o h e = rw e (sym (part-get (14 * j) 14 k (getD fs 6 []) h))
 
 -- field f, lent as the part from o to e
-pub lent-whole : (work : List ℕ) (n f o e : ℕ) → f < 11 → 512 * n + 512 ≤ length work → o ≡ 512 * n + offset layout f → e ≡ o + getD layout f 0
+pub lent-whole : (work : List ℕ) (n f o e : ℕ) → f < 10 → 512 * n + 512 ≤ length work → o ≡ 512 * n + offset layout f → e ≡ o + getD layout f 0
     → part o (e - o) work ≡ getD (fieldsAt work n) f []
 lent-whole work n f o e g h q r =
     lent-field work n f 0 (getD layout f 0) o e g (omega arith) (omega arith) r ∙ whole-field work n f g h

@@ -29,7 +29,7 @@ pub lent-length : (o e : ℕ) (ys xs : List ℕ) → o ≤ e → e ≤ length xs
 lent-length o e ys xs h g l = length-put o (e - o) ys xs (lent-size o e ys xs h g l) (omega arith)
 
 -- field f lent as the part from o to e, and come back as ys
-wrote-whole : (work ys : List ℕ) (n f o e : ℕ) → f < 11 → length ys ≡ getD layout f 0 → 512 * n + 512 ≤ length work → o ≡ 512 * n + offset layout f → e ≡ o + getD layout f 0
+wrote-whole : (work ys : List ℕ) (n f o e : ℕ) → f < 10 → length ys ≡ getD layout f 0 → 512 * n + 512 ≤ length work → o ≡ 512 * n + offset layout f → e ≡ o + getD layout f 0
     → Wrote work (put o (e - o) ys work) n (set (fieldsAt work n) f ys)
 wrote-whole work ys n f o e g l h q r =
     let d : e - o ≡ getD layout f 0 = omega arith in
@@ -38,7 +38,7 @@ wrote-whole work ys n f o e g l h q r =
     rw d (rw (put-whole (getD layout f 0) ys (getD (fieldsAt work n) f []) (omega (arith, length-field work n f g h))) at w)
 
 -- field f, of one word, stored
-wrote-one : (work : List ℕ) (n f v o : ℕ) → f < 11 → getD layout f 0 ≡ 1 → 512 * n + 512 ≤ length work → o ≡ 512 * n + offset layout f
+wrote-one : (work : List ℕ) (n f v o : ℕ) → f < 10 → getD layout f 0 ≡ 1 → 512 * n + 512 ≤ length work → o ≡ 512 * n + offset layout f
     → Wrote work (set work o v) n (set (fieldsAt work n) f (v ∷ []))
 wrote-one work n f v o g l h q =
     rw (put-whole 1 (v ∷ []) (getD (fieldsAt work n) f []) (omega (arith, length-field work n f g h)))
@@ -123,7 +123,7 @@ copy-wrote work w from to j l b h e =
     (wrote-record work (part (512 * from) 512 work) to (length-part (512 * from) 512 work (omega arith)) h)
 
 -- A ROOT'S RECORD
-fields-whole : (rec ys : List ℕ) (f o e : ℕ) → f < 11 → length rec ≡ 512 → length ys ≡ getD layout f 0 → o ≡ offset layout f → e ≡ o + getD layout f 0
+fields-whole : (rec ys : List ℕ) (f o e : ℕ) → f < 10 → length rec ≡ 512 → length ys ≡ getD layout f 0 → o ≡ offset layout f → e ≡ o + getD layout f 0
     → fields (put o (e - o) ys rec) ≡ set (fields rec) f ys
 unfolding fields
 fields-whole rec ys f o e g l s q r =
@@ -136,35 +136,30 @@ fields-whole rec ys f o e g l s q r =
     length-cut : length (getD (cut layout rec) f []) ≡ getD layout f 0
     length-cut = rw (cut-at layout f rec g) (length-part (offset layout f) (getD layout f 0) rec (omega (arith, offset-sum layout f)))
 
-fields-one : (rec : List ℕ) (f o v : ℕ) → f < 11 → getD layout f 0 ≡ 1 → length rec ≡ 512 → o ≡ offset layout f → fields (set rec o v) ≡ set (fields rec) f (v ∷ [])
+fields-one : (rec : List ℕ) (f o v : ℕ) → f < 10 → getD layout f 0 ≡ 1 → length rec ≡ 512 → o ≡ offset layout f → fields (set rec o v) ≡ set (fields rec) f (v ∷ [])
 fields-one rec f o v g s l q =
     let d : o + 1 - o ≡ 1 = omega arith in
     rw (set-put rec o v (omega (arith, offset-sum layout f)))
     (rw d at (fields-whole rec (v ∷ []) f o (o + 1) g l (sym s) q (omega arith)))
 
-blank-root : (tasks : List ℕ) (row : ℕ) (closed : List ℕ) (older : ℕ)
-    → set (set (set (set (fields (replicate 512 0)) 2 tasks) 9 closed) 4 (row ∷ [])) 8 (older ∷ []) ≡ rootFields tasks row closed older
+blank-root : (tasks : List ℕ) (row : ℕ) (closed : List ℕ) → set (set (set (fields (replicate 512 0)) 2 tasks) 8 closed) 4 (row ∷ []) ≡ rootFields tasks row closed
 unfolding fields rootFields
-blank-root tasks row closed older = refl
+blank-root tasks row closed = refl
 
-pub root-record : (rec ys zs tasks closed : List ℕ) (row older a b : ℕ) → rec ≡ replicate 512 0 → ys ≡ tasks → zs ≡ closed → length tasks ≡ 12 → length closed ≡ 12
-    → row < 4294967296 → older < 4294967296 → a ≡ row % 4294967296 → b ≡ older % 4294967296
-    → fields (set (set (put 441 (453 - 441) zs (put 6 (18 - 6) ys rec)) 30 a) 440 b) ≡ rootFields tasks row closed older
-root-record rec ys zs tasks closed row older a b e y x s t p q f g =
+pub root-record : (rec ys zs tasks closed : List ℕ) (row a : ℕ) → rec ≡ replicate 512 0 → ys ≡ tasks → zs ≡ closed → length tasks ≡ 12 → length closed ≡ 12
+    → row < 4294967296 → a ≡ row % 4294967296 → fields (set (put 440 (452 - 440) zs (put 6 (18 - 6) ys rec)) 30 a) ≡ rootFields tasks row closed
+root-record rec ys zs tasks closed row a e y x s t p f =
     let z : List ℕ = replicate 512 0 in
     let k : length z ≡ 512 = length-replicate {A = ℕ} 512 0 in
     let r1 : List ℕ = put 6 (18 - 6) tasks z in
     let k1 : length r1 ≡ 512 = length-put 6 (18 - 6) tasks z s (omega arith) ∙ k in
-    let r2 : List ℕ = put 441 (453 - 441) closed r1 in
-    let k2 : length r2 ≡ 512 = length-put 441 (453 - 441) closed r1 t (omega arith) ∙ k1 in
-    let r3 : List ℕ = set r2 30 row in
-    let k3 : length r3 ≡ 512 = length-set r2 30 row ∙ k2 in
-    rw (e, y, x, fits-word row a p f, fits-word older b q g)
-    (fields-one r3 8 440 older (omega arith) refl k3 refl
-    ∙ ap (λ (l : List (List ℕ)). set l 8 (older ∷ [])) (fields-one r2 4 30 row (omega arith) refl k2 refl)
-    ∙ ap (λ (l : List (List ℕ)). set (set l 4 (row ∷ [])) 8 (older ∷ [])) (fields-whole r1 closed 9 441 453 (omega arith) k1 t refl refl)
-    ∙ ap (λ (l : List (List ℕ)). set (set (set l 9 closed) 4 (row ∷ [])) 8 (older ∷ [])) (fields-whole z tasks 2 6 18 (omega arith) k s refl refl)
-    ∙ blank-root tasks row closed older)
+    let r2 : List ℕ = put 440 (452 - 440) closed r1 in
+    let k2 : length r2 ≡ 512 = length-put 440 (452 - 440) closed r1 t (omega arith) ∙ k1 in
+    rw (e, y, x, fits-word row a p f)
+    (fields-one r2 4 30 row (omega arith) refl k2 refl
+    ∙ ap (λ (l : List (List ℕ)). set l 4 (row ∷ [])) (fields-whole r1 closed 8 440 452 (omega arith) k1 t refl refl)
+    ∙ ap (λ (l : List (List ℕ)). set (set l 8 closed) 4 (row ∷ [])) (fields-whole z tasks 2 6 18 (omega arith) k s refl refl)
+    ∙ blank-root tasks row closed)
 
 pub root-wrote : (work ys : List ℕ) (n : ℕ) (fs : List (List ℕ)) → 512 * n + 512 ≤ length work → length ys ≡ 512 → fields ys ≡ fs
     → Wrote work (put (512 * n) (512 * n + 512 - 512 * n) ys work) n fs

@@ -14,10 +14,10 @@ use Rattle.records.specs.declared.NodeHead.{NodeHead}
 
 -- 0 the link: 0 for a root, else parent + 1; 1 to 5 the constraint; 6 to 17 the tasks; 18 to 29 the finishes; 30 of a root: the row
 -- of its part of the assignments; 31 of a number up to the latest root: the word of the tournament of the slots; 32 to 199 of a
--- root: twelve slots of 14 words; 200 to 439 twelve packed paths of 20 words; of a root: 440 the root before it + 1, 0 for the
--- first, and 441 to 452 the closed tasks of its part; the rest is free
+-- root: twelve slots of 14 words; 200 to 439 twelve packed paths of 20 words; 440 to 451 of a root: the closed tasks of its part;
+-- the rest is free
 abbrev pub layout : List ℕ
-layout = 1 ∷ 5 ∷ 12 ∷ 12 ∷ 1 ∷ 1 ∷ 168 ∷ 240 ∷ 1 ∷ 12 ∷ 59 ∷ []
+layout = 1 ∷ 5 ∷ 12 ∷ 12 ∷ 1 ∷ 1 ∷ 168 ∷ 240 ∷ 12 ∷ 60 ∷ []
 
 unfoldable pub fields : List ℕ → List (List ℕ)
 fields rec = cut layout rec
@@ -81,12 +81,9 @@ slotTasksIn fs j = part 2 12 (slotIn fs j)
 abbrev pub packedIn : List (List ℕ) → ℕ → List ℕ
 packedIn fs i = part (20 * i) 20 (getD fs 7 [])
 
-abbrev pub olderIn : List (List ℕ) → ℕ
-olderIn fs = getD (getD fs 8 []) 0 0
-
 -- a word for each task, 0 where it is not closed
 abbrev pub closedIn : List (List ℕ) → List ℕ
-closedIn fs = getD fs 9 []
+closedIn fs = getD fs 8 []
 
 -- words as bytes
 abbrev pub bytes : List ℕ → List ℕ
@@ -105,10 +102,10 @@ abbrev pub withSlot : List (List ℕ) → ℕ → List ℕ → List (List ℕ)
 withSlot fs j slot = set fs 6 (put (14 * j) 14 slot (getD fs 6 []))
 
 -- the fields of a root whose paths are not written
-unfoldable pub rootFields : List ℕ → ℕ → List ℕ → ℕ → List (List ℕ)
-rootFields tasks row closed older =
-    (0 ∷ []) ∷ replicate 5 0 ∷ tasks ∷ replicate 12 0 ∷ (row ∷ []) ∷ (0 ∷ []) ∷ replicate 168 0 ∷ replicate 240 0 ∷ (older ∷ [])
-    ∷ closed ∷ replicate 59 0 ∷ []
+unfoldable pub rootFields : List ℕ → ℕ → List ℕ → List (List ℕ)
+rootFields tasks row closed =
+    (0 ∷ []) ∷ replicate 5 0 ∷ tasks ∷ replicate 12 0 ∷ (row ∷ []) ∷ (0 ∷ []) ∷ replicate 168 0 ∷ replicate 240 0 ∷ closed
+    ∷ replicate 60 0 ∷ []
 
 -- the key of node n, past the records: its cost while it is open
 unfoldable pub keyAt : ℕ → List ℕ → ℕ → ℕ

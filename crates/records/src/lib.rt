@@ -175,7 +175,7 @@ pub fn closed_of(work: &[u32], n: usize) -> [u8; 12]
     ensures { λ r. ⌜ r ≡ bytes (closedIn (fieldsAt (now (work .entry)) n)) ⌝ }
 {
     let at = 512 * n;
-    bytes_of(&work[at + 441..at + 453])
+    bytes_of(&work[at + 440..at + 452])
 }
 
 // The word of the tournament of the slots.
@@ -310,30 +310,22 @@ pub fn put_path(
 }
 
 // Writes the record of a root without its paths: every slot is empty, every finish 0.
-pub fn begin_root(
-    work: &mut [u32],
-    n: usize,
-    tasks: [u8; 12],
-    row: usize,
-    closed: [u8; 12],
-    older: usize,
-)
-    requires { ⌜ (512 * n + 512 ≤ length (now work)) × (row < 4294967296) × (older < 4294967296) ⌝ }
-    ensures { λ _. ⌜ Wrote (now (work .entry)) (now (work .exit)) n (rootFields tasks row closed older) ⌝ }
+pub fn begin_root(work: &mut [u32], n: usize, tasks: [u8; 12], row: usize, closed: [u8; 12])
+    requires { ⌜ (512 * n + 512 ≤ length (now work)) × (row < 4294967296) ⌝ }
+    ensures { λ _. ⌜ Wrote (now (work .entry)) (now (work .exit)) n (rootFields tasks row closed) ⌝ }
 {
     let at = 512 * n;
-    root_record(&mut work[at..at + 512], &tasks, row, &closed, older);
+    root_record(&mut work[at..at + 512], &tasks, row, &closed);
 }
 
-fn root_record(rec: &mut [u32], tasks: &[u8], row: usize, closed: &[u8], older: usize)
-    requires { ⌜ (length (now rec) ≡ 512) × (length (now tasks) ≡ 12) × (length (now closed) ≡ 12) × (row < 4294967296) × (older < 4294967296) ⌝ }
-    ensures { λ _. ⌜ fields (now (rec .exit)) ≡ rootFields (now (tasks .entry)) row (now (closed .entry)) older ⌝ }
+fn root_record(rec: &mut [u32], tasks: &[u8], row: usize, closed: &[u8])
+    requires { ⌜ (length (now rec) ≡ 512) × (length (now tasks) ≡ 12) × (length (now closed) ≡ 12) × (row < 4294967296) ⌝ }
+    ensures { λ _. ⌜ fields (now (rec .exit)) ≡ rootFields (now (tasks .entry)) row (now (closed .entry)) ⌝ }
 {
     clear(rec);
     copy_bytes(&mut rec[6..18], tasks);
-    copy_bytes(&mut rec[441..453], closed);
+    copy_bytes(&mut rec[440..452], closed);
     rec[30] = word(row);
-    rec[440] = word(older);
 }
 
 // Fills slot j of a root: an assignment that remains, with its sum.

@@ -1,6 +1,6 @@
 -- What making a root leaves of the nodes, and what other writes leave of the slots. Assumes nothing.
 use Prim.Native.Nat.{ℕ, _+_, _-_, _<_}
-use mathlib.Core.Path.{_≡_, refl, sym, ap, subst, _∙_}
+use mathlib.Core.Path.{_≡_, refl, sym, ap, _∙_}
 use mathlib.Core.Logic.{inl, inr, ⊎-elim, _≢_}
 use mathlib.Core.List.{List, [], List·Memᴰ as Mem}
 use native.Mathlib.Omega.{arith}
@@ -16,21 +16,20 @@ use Rattle.records.specs.Record.{fields, fieldsAt, rowIn, slotIn, rootFields, w
 use Rattle.nodes.specs.Nodes.{nodeAt, openedAt}
 use Rattle.nodes.specs.Stored.{Stored, RootSoFar}
 use Rattle.nodes.proofs.Kept.{Alike, alike-same, slot-alike, kept-stored, kept-nodes, kept-opened}
-use Rattle.roots.specs.Slots.{rootsAt, slotHere, rootSlots, slotsAt, Rooted, PartsHold, RootMade}
+use Rattle.roots.specs.Slots.{slotHere, rootSlots, slotsAt, Rooted, PartsHold, RootMade}
 use Rattle.roots.specs.Choices.{Cleared}
 use Rattle.roots.specs.Tournament.{ownAt, Tournament, OnlyTournament, SlotsHold}
 use Rattle.roots.specs.Begun.{RootBegun, PartsAlike, SlotsAlike}
-use Rattle.roots.proofs.Chains.{roots-below, roots-same}
 use Rattle.roots.proofs.Taken.{each-same}
 use Rattle.roots.proofs.Codes.{win-kept, own-kept}
 use Rattle.roots.proofs.Playing.{order-slots, best-same, played-on}
 
 -- THE ROOT
-module _ (m : ℕ) (table mid after final : List ℕ) (made : ℕ) (tasks : List ℕ) (row : ℕ) (closed : List ℕ) (older : ℕ) (u : RootMade m table mid after made tasks row closed older) (q : OnlyTournament after final (made + 1)) where
-  new-field : (f : ℕ) → f ≢ 5 → f ≢ 6 → getD (fieldsAt final made) f [] ≡ getD (rootFields tasks row closed older) f []
+module _ (m : ℕ) (table mid after final : List ℕ) (made : ℕ) (tasks : List ℕ) (row : ℕ) (closed : List ℕ) (u : RootMade m table mid after made tasks row closed) (q : OnlyTournament after final (made + 1)) where
+  new-field : (f : ℕ) → f ≢ 5 → f ≢ 6 → getD (fieldsAt final made) f [] ≡ getD (rootFields tasks row closed) f []
   new-field f a b =
       q .fields made f a ∙ ap (λ (l : List (List ℕ)). getD l f []) (u .same .here)
-      ∙ getD-set-other (rootFields tasks row closed older) 6 f (getD (fieldsAt after made) 6 []) [] b
+      ∙ getD-set-other (rootFields tasks row closed) 6 f (getD (fieldsAt after made) 6 []) [] b
 
   new-root : (d : Sheet) (a : List ℕ) → length a ≡ d .count → ((k : ℕ) → a at k < 256) → tasks ≡ taskList a → RootSoFar d final made a 0
   unfolding rootFields
@@ -74,64 +73,56 @@ module _ (m : ℕ) (table mid after final : List ℕ) (made : ℕ) (tasks : List
 
 -- THE SLOTS are read from their fields of the roots' records alone
 pub slots-same : (fs gs : List (List ℕ)) → fs ≡ gs → SlotsAlike fs gs
-slots-same fs gs e = rw e (record { parts = record { tasks = refl; row = refl; slots = refl; older = refl; closed = refl }; tournament = refl })
+slots-same fs gs e = rw e (record { parts = record { tasks = refl; row = refl; slots = refl; closed = refl }; tournament = refl })
 
 module _ (m : ℕ) (fs gs : List (List ℕ)) (a : PartsAlike fs gs) where
   root-slots-same : rootSlots m fs ≡ rootSlots m gs
   unfolding rootSlots slotHere
   root-slots-same = rw (a .row) (each-same (slotHere m fs) (slotHere m gs) (countFrom (rowIn gs) (m - rowIn gs)) (λ j i. rw (a .tasks, a .row, a .slots, a .closed)))
 
-  rooted-same : (table : List ℕ) (n : ℕ) → Rooted m table n gs → Rooted m table n fs
-  rooted-same table n r =
+  rooted-same : (table : List ℕ) → Rooted m table gs → Rooted m table fs
+  rooted-same table r =
       record {
-        older = rw (a .older) (r .older);
         part = rw (a .tasks, a .closed) (r .part);
         slots = λ j l h f. rw (a .slots) (r .slots j (rw (a .row) at l) h (rw (a .slots) at f));
       }
 
 -- THE FRAME: whatever leaves these fields leaves the slots, and what they hold
-pub roots-kept : (before after : List ℕ) (latest : ℕ) → ((n : ℕ) → Mem n (rootsAt before latest) → PartsAlike (fieldsAt after n) (fieldsAt before n)) → rootsAt after latest ≡ rootsAt before latest
-roots-kept before after latest alike = roots-same (fieldsAt before) (fieldsAt after) latest latest (λ n i. ap (λ (l : List ℕ). getD l 0 0) (alike n i .older))
-
-pub parts-kept : (m : ℕ) (table before after : List ℕ) (latest : ℕ) (rest : List (List ℕ)) → ((n : ℕ) → Mem n (rootsAt before latest) → PartsAlike (fieldsAt after n) (fieldsAt before n))
-    → PartsHold m table before latest rest → PartsHold m table after latest rest
+pub parts-kept : (m : ℕ) (table before after roots : List ℕ) (rest : List (List ℕ)) → ((n : ℕ) → Mem n roots → PartsAlike (fieldsAt after n) (fieldsAt before n))
+    → PartsHold m table before roots rest → PartsHold m table after roots rest
 unfolding slotsAt
-parts-kept m table before after latest rest alike H =
+parts-kept m table before after roots rest alike H =
     record {
-      roots = λ n i. let k = subst (Mem n) same i in rooted-same m (fieldsAt after n) (fieldsAt before n) (alike n k) table n (H .roots n k);
+      rooted = λ n i. rooted-same m (fieldsAt after n) (fieldsAt before n) (alike n i) table (H .rooted n i);
       holds =
-          rw (same, each-same (λ n. rootSlots m (fieldsAt after n)) (λ n. rootSlots m (fieldsAt before n)) (rootsAt before latest) (λ n i. root-slots-same m (fieldsAt after n) (fieldsAt before n) (alike n i)))
+          rw (each-same (λ n. rootSlots m (fieldsAt after n)) (λ n. rootSlots m (fieldsAt before n)) roots (λ n i. root-slots-same m (fieldsAt after n) (fieldsAt before n) (alike n i)))
           (H .holds);
     }
-  where
-    same : rootsAt after latest ≡ rootsAt before latest
-    same = roots-kept before after latest alike
 
 pub slots-kept : (m : ℕ) (table before after : List ℕ) (latest : ℕ) (rest : List (List ℕ)) → ((n : ℕ) → n < latest → SlotsAlike (fieldsAt after n) (fieldsAt before n))
     → SlotsHold m table before latest rest → SlotsHold m table after latest rest
 slots-kept m table before after latest rest alike H =
-    record { parts = parts-kept m table before after latest rest (λ n i. alike n (low n i) .parts) (H .parts); tournament = kept }
+    record {
+      roots = H .roots;
+      low = H .low;
+      falls = H .falls;
+      parts = parts-kept m table before after (H .roots) rest (λ n i. alike n (H .low n i) .parts) (H .parts);
+      tournament = kept;
+    }
   where
-    low : (n : ℕ) → Mem n (rootsAt before latest) → n < latest
-    low n i = roots-below (fieldsAt before) latest latest (λ k j. H .parts .roots k j .older) n i
-
-    same : rootsAt after latest ≡ rootsAt before latest
-    same = roots-kept before after latest (λ n i. alike n (low n i) .parts)
-
     own : (k : ℕ) → k < latest → ownAt after k ≡ ownAt before k
     own k l = own-kept before after k (alike k l .tournament)
 
-    kept : Tournament m after latest
+    kept : Tournament m after latest (H .roots)
     kept =
         record {
           played =
               played-on before after latest latest (omega arith) (λ k l. order-slots (fieldsAt after k) (fieldsAt before k) (alike k l .parts .slots)) (λ k l. win-kept before after k (alike k l .tournament)) own
               (λ k a b. absurd (omega arith)) (λ k a b. absurd (omega arith)) (H .tournament .played);
-          roots = λ k i.
-              let j = subst (Mem k) same i in
-              let l = low k j in
-              own k l ∙ H .tournament .roots k j ∙ sym (best-same before after k (alike k l .parts .slots) m (alike k l .parts .row));
-          others = λ k l. ⊎-elim (λ e. inl (own k l ∙ e)) (λ i. inr (subst (Mem k) (sym same) i)) (H .tournament .others k l);
+          own = λ k i.
+              let l = H .low k i in
+              own k l ∙ H .tournament .own k i ∙ sym (best-same before after k (alike k l .parts .slots) m (alike k l .parts .row));
+          others = λ k l. ⊎-elim (λ e. inl (own k l ∙ e)) inr (H .tournament .others k l);
         }
 
 -- words of the tournament are written
@@ -141,8 +132,7 @@ only-alike before after l q k =
       tasks = q .fields k 2 (λ e. omega arith);
       row = q .fields k 4 (λ e. omega arith);
       slots = q .fields k 6 (λ e. omega arith);
-      older = q .fields k 8 (λ e. omega arith);
-      closed = q .fields k 9 (λ e. omega arith);
+      closed = q .fields k 8 (λ e. omega arith);
     }
 
 -- a path is written
@@ -150,7 +140,7 @@ pub path-slots-alike : (before after : List ℕ) (n i finish : ℕ) (packed : Li
 path-slots-alike before after n i finish packed u k = go (ℕ-discrete k n)
   where
     path-alike : SlotsAlike (withPath (fieldsAt before n) i finish packed) (fieldsAt before n)
-    path-alike = unfold fieldsAt in unfold fields in record { parts = record { tasks = refl; row = refl; slots = refl; older = refl; closed = refl }; tournament = refl }
+    path-alike = unfold fieldsAt in unfold fields in record { parts = record { tasks = refl; row = refl; slots = refl; closed = refl }; tournament = refl }
 
     go : Dec (k ≡ n) → SlotsAlike (fieldsAt after k) (fieldsAt before k)
     go (yes z) = rw (z, u .here) path-alike

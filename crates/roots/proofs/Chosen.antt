@@ -24,7 +24,7 @@ use Rattle.assignment.specs.Answers.{candidateFor}
 use Rattle.assignment.proofs.Orders.{says-earlier}
 use Rattle.records.specs.Record.{fieldsAt, rowIn, flagIn, slotTasksIn, bytes}
 use Rattle.records.proofs.Words.{bytes-same}
-use Rattle.roots.specs.Slots.{rootsAt, slotOf, slotHere, rootSlots, slotsAt, PartsHold}
+use Rattle.roots.specs.Slots.{slotOf, slotHere, rootSlots, slotsAt, PartsHold}
 use Rattle.roots.specs.Choices.{slotBefore, firstOf, betterOf, overSlots, Live, ChosenOf}
 use Rattle.roots.specs.declared.Choice.{Choice}
 use Rattle.roots.specs.declared.Choice.the-variants.{Nothing, Slot as Chosen}
@@ -71,47 +71,47 @@ list-bytes m a small h i = ⊎-elim
         omega (arith, List·getD-eq-default (taskList a) 0 {n = i} n)
 
 -- a slot of a root is one of the slots
-pub live-slot : (m : ℕ) (work : List ℕ) (latest n j : ℕ) → Live m work latest n j → Mem (slotOf m (fieldsAt work n) j) (slotsAt m work latest)
+pub live-slot : (m : ℕ) (work roots : List ℕ) (n j : ℕ) → Live m work roots n j → Mem (slotOf m (fieldsAt work n) j) (slotsAt m work roots)
 unfolding slotsAt rootSlots slotHere
-live-slot m work latest n j v =
+live-slot m work roots n j v =
     each-mem (λ k. rootSlots m (fieldsAt work k)) (v .root)
     (each-mem (slotHere m (fieldsAt work n)) (countFrom-mem (rowIn (fieldsAt work n)) (m - rowIn (fieldsAt work n)) j (v .low) (omega (arith, v .low, v .high)))
     (rw (eq-eqb (flagIn (fieldsAt work n) j) 1 (v .flag)) (here refl)))
 
-module _ (m : ℕ) (table work : List ℕ) (latest : ℕ) (rest : List (List ℕ)) (small : m ≤ 12) (H : PartsHold m table work latest rest) where
-  pub live-unbarred : (n j : ℕ) → Live m work latest n j → Unbarred m table (take m (slotTasksIn (fieldsAt work n) j))
+module _ (m : ℕ) (table work roots : List ℕ) (rest : List (List ℕ)) (small : m ≤ 12) (H : PartsHold m table work roots rest) where
+  pub live-unbarred : (n j : ℕ) → Live m work roots n j → Unbarred m table (take m (slotTasksIn (fieldsAt work n) j))
   live-unbarred n j v =
-      subst (Candidate m table (s .part)) (H .holds .right s (live-slot m work latest n j v)) (candidate-meant m table (s .part)) .0
+      subst (Candidate m table (s .part)) (H .holds .right s (live-slot m work roots n j v)) (candidate-meant m table (s .part)) .0
     where
       s : Slot
       s = slotOf m (fieldsAt work n) j
 
   -- the words of a slot, as they are compared
-  pub live-list : (n j : ℕ) → Live m work latest n j → bytes (slotTasksIn (fieldsAt work n) j) ≡ taskList (take m (slotTasksIn (fieldsAt work n) j))
+  pub live-list : (n j : ℕ) → Live m work roots n j → bytes (slotTasksIn (fieldsAt work n) j) ≡ taskList (take m (slotTasksIn (fieldsAt work n) j))
   live-list n j v =
-      let e = H .roots n (v .root) .slots j (v .low) (v .high) (v .flag) .2 in
+      let e = H .rooted n (v .root) .slots j (v .low) (v .high) (v .flag) .2 in
       ap bytes e ∙ bytes-same (taskList (take m (slotTasksIn (fieldsAt work n) j))) (list-bytes m (take m (slotTasksIn (fieldsAt work n) j)) small (live-unbarred n j v .0))
 
-  says-before : (n j p q : ℕ) → Live m work latest n j → Live m work latest p q
+  says-before : (n j p q : ℕ) → Live m work roots n j → Live m work roots p q
       → Says (slotBefore (fieldsAt work n) j (fieldsAt work p) q) (Less m table (take m (slotTasksIn (fieldsAt work n) j)) (take m (slotTasksIn (fieldsAt work p) q)))
   unfolding candidateFor
   says-before n j p q v w =
-      rw (H .roots n (v .root) .slots j (v .low) (v .high) (v .flag) .1, H .roots p (w .root) .slots q (w .low) (w .high) (w .flag) .1, live-list n j v, live-list p q w)
+      rw (H .rooted n (v .root) .slots j (v .low) (v .high) (v .flag) .1, H .rooted p (w .root) .slots q (w .low) (w .high) (w .flag) .1, live-list n j v, live-list p q w)
       (says-earlier m table (take m (slotTasksIn (fieldsAt work n) j)) (take m (slotTasksIn (fieldsAt work p) q)) small (live-unbarred n j v .0 .as-many) (live-unbarred p q w .0 .as-many))
 
 -- ONE SLOT MORE
-module _ (m : ℕ) (work : List ℕ) (latest : ℕ) where
-  module _ (n j : ℕ) (seen : List Slot) (root : Mem n (rootsAt work latest)) (low : rowIn (fieldsAt work n) ≤ j) (high : j < m) where
+module _ (m : ℕ) (work roots : List ℕ) where
+  module _ (n j : ℕ) (seen : List Slot) (root : Mem n roots) (low : rowIn (fieldsAt work n) ≤ j) (high : j < m) where
     abbrev s : Slot
     s = slotOf m (fieldsAt work n) j
 
     -- against the chosen slot, in the order of the assignments
-    pub first-of-two : (p q : ℕ) → Live m work latest n j → ChosenOf m work latest seen (Chosen p q) → (r : Bool) → slotBefore (fieldsAt work n) j (fieldsAt work p) q ≡ r
-        → ChosenOf m work latest (seen ++ s ∷ []) (cond r (Chosen n j) (Chosen p q))
+    pub first-of-two : (p q : ℕ) → Live m work roots n j → ChosenOf m work roots seen (Chosen p q) → (r : Bool) → slotBefore (fieldsAt work n) j (fieldsAt work p) q ≡ r
+        → ChosenOf m work roots (seen ++ s ∷ []) (cond r (Chosen n j) (Chosen p q))
     first-of-two p q live h true e = (
       live,
       λ table rest small H t i. ⊎-elim
-          (λ k. no-later table (t .first) (says-before m table work latest rest small H n j p q live (h .0) .fact (rw e tt)) (h .1 table rest small H t k))
+          (λ k. no-later table (t .first) (says-before m table work roots rest small H n j p q live (h .0) .fact (rw e tt)) (h .1 table rest small H t k))
           (λ k. inl (ap (λ (x : Slot). x .first) (only k))) (cases-append seen i),
     )
       where
@@ -125,27 +125,27 @@ module _ (m : ℕ) (work : List ℕ) (latest : ℕ) where
           (h .1 table rest small H t)
           (λ k. subst (λ (x : List ℕ). (x ≡ take m (slotTasksIn (fieldsAt work p) q)) ⊎ Less m table (take m (slotTasksIn (fieldsAt work p) q)) x) (sym (ap (λ (y : Slot). y .first) (only k)))
           (not-less m table (s .first) (take m (slotTasksIn (fieldsAt work p) q))
-          (live-unbarred m table work latest rest small H n j live .0 .as-many ∙ sym (live-unbarred m table work latest rest small H p q (h .0) .0 .as-many))
-          (λ l. absurd (false≢true (sym e ∙ is-true (slotBefore (fieldsAt work n) j (fieldsAt work p) q) (says-before m table work latest rest small H n j p q live (h .0) .test l)))))) (cases-append seen i),
+          (live-unbarred m table work roots rest small H n j live .0 .as-many ∙ sym (live-unbarred m table work roots rest small H p q (h .0) .0 .as-many))
+          (λ l. absurd (false≢true (sym e ∙ is-true (slotBefore (fieldsAt work n) j (fieldsAt work p) q) (says-before m table work roots rest small H n j p q live (h .0) .test l)))))) (cases-append seen i),
     )
 
-    one-more : (b : Choice) → ChosenOf m work latest seen b → ChosenOf m work latest (seen ++ slotHere m (fieldsAt work n) j) (betterOf work n j b)
+    one-more : (b : Choice) → ChosenOf m work roots seen b → ChosenOf m work roots (seen ++ slotHere m (fieldsAt work n) j) (betterOf work n j b)
     unfolding slotHere betterOf
     one-more b h = go (eqb (flagIn (fieldsAt work n) j) 1) refl b h
       where
-        live : eqb (flagIn (fieldsAt work n) j) 1 ≡ true → Live m work latest n j
+        live : eqb (flagIn (fieldsAt work n) j) 1 ≡ true → Live m work roots n j
         live e = record { root = root; low = low; high = high; flag = eqb-true (flagIn (fieldsAt work n) j) 1 e }
 
-        go : (t : Bool) → eqb (flagIn (fieldsAt work n) j) 1 ≡ t → (b : Choice) → ChosenOf m work latest seen b
-            → ChosenOf m work latest (seen ++ cond t (s ∷ []) []) (cond t (firstOf work n j b) b)
-        go false e b h = subst (λ (l : List Slot). ChosenOf m work latest l b) (sym (append-nil seen)) h
+        go : (t : Bool) → eqb (flagIn (fieldsAt work n) j) 1 ≡ t → (b : Choice) → ChosenOf m work roots seen b
+            → ChosenOf m work roots (seen ++ cond t (s ∷ []) []) (cond t (firstOf work n j b) b)
+        go false e b h = subst (λ (l : List Slot). ChosenOf m work roots l b) (sym (append-nil seen)) h
         go true e Nothing h = (live e, λ table rest small H. rw h (λ t i. inl (ap (λ (x : Slot). x .first) (only i))))
         go true e (Chosen p q) h = first-of-two p q (live e) h (slotBefore (fieldsAt work n) j (fieldsAt work p) q) refl
 
-  pub over-slots : (n : ℕ) → Mem n (rootsAt work latest) → (js : List ℕ) (seen : List Slot) (b : Choice) → ((j : ℕ) → Mem j js → (rowIn (fieldsAt work n) ≤ j) × (j < m))
-      → ChosenOf m work latest seen b → ChosenOf m work latest (seen ++ each (slotHere m (fieldsAt work n)) js) (overSlots work n js b)
-  over-slots n root [] seen b g h = subst (λ (l : List Slot). ChosenOf m work latest l b) (sym (append-nil seen)) h
+  pub over-slots : (n : ℕ) → Mem n roots → (js : List ℕ) (seen : List Slot) (b : Choice) → ((j : ℕ) → Mem j js → (rowIn (fieldsAt work n) ≤ j) × (j < m))
+      → ChosenOf m work roots seen b → ChosenOf m work roots (seen ++ each (slotHere m (fieldsAt work n)) js) (overSlots work n js b)
+  over-slots n root [] seen b g h = subst (λ (l : List Slot). ChosenOf m work roots l b) (sym (append-nil seen)) h
   over-slots n root (j ∷ js) seen b g h =
       let k = g j (here refl) in
-      subst (λ (l : List Slot). ChosenOf m work latest l (overSlots work n js (betterOf work n j b))) (append-assoc seen (slotHere m (fieldsAt work n) j) (each (slotHere m (fieldsAt work n)) js))
+      subst (λ (l : List Slot). ChosenOf m work roots l (overSlots work n js (betterOf work n j b))) (append-assoc seen (slotHere m (fieldsAt work n) j) (each (slotHere m (fieldsAt work n)) js))
       (over-slots n root js (seen ++ slotHere m (fieldsAt work n) j) (betterOf work n j b) (λ i x. g i (there x)) (one-more n j seen root (k .0) (k .1) b h))

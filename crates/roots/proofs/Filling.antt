@@ -26,12 +26,12 @@ use Rattle.roots.specs.Slots.{SlotFor, PartKept, Filled, RootMade}
 use Rattle.roots.specs.Choices.{slotWords}
 
 -- THE FIELDS OF A RECORD
-pub fields-long : (work : List ℕ) (n : ℕ) → length (fieldsAt work n) ≡ 11
+pub fields-long : (work : List ℕ) (n : ℕ) → length (fieldsAt work n) ≡ 10
 unfolding fieldsAt fields
 fields-long work n = refl
 
 -- the slots of a record put anew
-module _ (fs : List (List ℕ)) (long : length fs ≡ 11) (all : length (getD fs 6 []) ≡ 168) (j : ℕ) (low : j < 12) (ys : List ℕ) where
+module _ (fs : List (List ℕ)) (long : length fs ≡ 10) (all : length (getD fs 6 []) ≡ 168) (j : ℕ) (low : j < 12) (ys : List ℕ) where
   slots-set : getD (withSlot fs j ys) 6 [] ≡ put (14 * j) 14 ys (getD fs 6 [])
   slots-set = getD-set-same fs 6 (put (14 * j) 14 ys (getD fs 6 [])) [] (omega arith)
 
@@ -65,7 +65,7 @@ pub list-long : (a : List ℕ) → length a ≤ 12 → length (taskList a) ≡ 1
 list-long a h = length-append a (replicate (12 - length a) 255) ∙ rw (length-replicate {A = ℕ} (12 - length a) 255) (omega arith)
 
 -- a candidate is stored
-module _ (m : ℕ) (table : List ℕ) (fs : List (List ℕ)) (long : length fs ≡ 11) (all : length (getD fs 6 []) ≡ 168) (j : ℕ) (low : j < 12) where
+module _ (m : ℕ) (table : List ℕ) (fs : List (List ℕ)) (long : length fs ≡ 10) (all : length (getD fs 6 []) ≡ 168) (j : ℕ) (low : j < 12) where
   pub words-long : (o : Option (List ℕ)) → ((a : List ℕ) → o ≡ some a → length a ≤ 12) → length (slotWords (candidateFor m table o) (slotIn fs j)) ≡ 14
   unfolding candidateFor
   words-long none few = length-set (slotIn fs j) 0 0 ∙ slot-long fs long all j low []
@@ -165,9 +165,9 @@ module _ (work after : List ℕ) (n j : ℕ) (c : Candidate) where
   stored-none f u = rw f u
 
 -- the record of a root is begun, and its slots are filled
-pub root-filled : (m : ℕ) (table before mid after : List ℕ) (n : ℕ) (tasks : List ℕ) (row : ℕ) (closed : List ℕ) (older : ℕ) → Wrote before mid n (rootFields tasks row closed older)
-    → Filled m table mid after n → RootMade m table before after n tasks row closed older
-root-filled m table before mid after n tasks row closed older u f =
+pub root-filled : (m : ℕ) (table before mid after : List ℕ) (n : ℕ) (tasks : List ℕ) (row : ℕ) (closed : List ℕ) → Wrote before mid n (rootFields tasks row closed)
+    → Filled m table mid after n → RootMade m table before after n tasks row closed
+root-filled m table before mid after n tasks row closed u f =
     record {
       same =
           record {
@@ -188,7 +188,7 @@ root-filled m table before mid after n tasks row closed older u f =
     begun-closed = unfold rootFields in ap closedIn (u .here)
 
 -- the part of a root that is begun
-pub begun-kept : (m : ℕ) (before mid : List ℕ) (n : ℕ) (tasks : List ℕ) (row : ℕ) (closed : List ℕ) (older : ℕ) → Wrote before mid n (rootFields tasks row closed older) → PartKept m tasks closed
+pub begun-kept : (m : ℕ) (before mid : List ℕ) (n : ℕ) (tasks : List ℕ) (row : ℕ) (closed : List ℕ) → Wrote before mid n (rootFields tasks row closed) → PartKept m tasks closed
     → PartKept m (tasksIn (fieldsAt mid n)) (closedIn (fieldsAt mid n))
 unfolding rootFields
-begun-kept m before mid n tasks row closed older u k = rw (u .here) k
+begun-kept m before mid n tasks row closed u k = rw (u .here) k

@@ -1,4 +1,3 @@
-pub mod Chains
 pub mod Choosing
 pub mod Chosen
 pub mod Codes

@@ -1,5 +1,5 @@
 -- A root made of the next assignment: its slots and those that were left hold what remains. Assumes nothing.
-use Prim.Native.Nat.{ℕ, suc, _+_, _*_, _-_, _<_, _≤_}
+use Prim.Native.Nat.{ℕ, _+_, _*_, _-_, _<_, _≤_}
 use mathlib.Core.Path.{_≡_, refl, sym, ap, subst, _∙_}
 use mathlib.Core.Logic.{_⊎_, ⊎-elim}
 use mathlib.Core.Bool.{Bool, true, false, cond}
@@ -11,7 +11,7 @@ use lib.ListN.{set, take, length, replicate, List·getD-append}
 use lib.Seq.{getD-set-same, getD-set-other, set-out, take-at, getD-take}
 use lib.Dec.{eqb}
 use borrow.Author.Tests.{eq-eqb, ne-eqb}
-use Rattle.deck.specs.Lists.{countFrom, each}
+use Rattle.deck.specs.Lists.{countFrom}
 use Rattle.deck.specs.Assignments.{assignmentsInOrder, leastAssignment}
 use Rattle.deck.specs.Calls.{taskList}
 use Rattle.meaning.specs.Meaning.{_at_, Assignment}
@@ -22,17 +22,16 @@ use Rattle.partition.specs.Parts.{noneClosed, slotPart, Slot, slotWith, slotsOf
 use Rattle.partition.proofs.Candidates.{Candidate, candidate-meant}
 use Rattle.partition.proofs.Splits.{none-closed}
 use Rattle.partition.proofs.Murty.{next-in-order, none-remains, first-in-order}
-use Rattle.records.specs.Record.{fieldsAt, tasksIn, rowIn, closedIn, flagIn, slotTasksIn, olderIn, bytes, rootFields}
+use Rattle.records.specs.Record.{fieldsAt, tasksIn, rowIn, closedIn, flagIn, slotTasksIn, bytes, rootFields}
 use Rattle.records.proofs.Words.{bytes-same}
-use Rattle.roots.specs.Slots.{rootsFrom, rootsAt, slotOf, slotHere, rootSlots, slotsAt, Older, SlotFor, PartKept, Rooted, PartsHold, RootMade}
-use Rattle.roots.specs.Choices.{Live, ChosenOf, partOf, Cleared}
-use Rattle.roots.specs.Tournament.{SlotsHold, NextTaken}
+use Rattle.roots.specs.Slots.{slotOf, slotHere, rootSlots, slotsAt, SlotFor, PartKept, Rooted, PartsHold, RootMade}
+use Rattle.roots.specs.Choices.{Live, partOf, Cleared}
+use Rattle.roots.specs.Tournament.{SlotsHold, FirstSlot, NextTaken}
 use Rattle.roots.specs.declared.Choice.the-variants.{Nothing, Slot as Chosen}
 use Rattle.roots.specs.declared.RootPart.{RootPart}
-use Rattle.roots.proofs.Chains.{no-roots, roots-fuel, roots-below, roots-same}
 use Rattle.roots.proofs.Chosen.{list-bytes, live-unbarred, live-list}
 use Rattle.roots.proofs.Parts.{byte-at}
-use Rattle.roots.proofs.Taken.{each-same, taken-roots, taken-slots, taken-rooted}
+use Rattle.roots.proofs.Taken.{each-same, taken-slots, taken-rooted}
 
 -- THE ORDER OF THE SLOTS is free
 module _ {A : Type 0} (R : A → A → Type 0) where
@@ -75,7 +74,7 @@ pub list-kept : (m : ℕ) (a closed : List ℕ) → m ≤ 12 → Assignment m a 
 list-kept m a closed small h shut = record { low = list-low m a small h; tasks-small = list-bytes m a small h; closed-small = shut }
 
 -- A ROOT IS MADE
-module _ (m : ℕ) (table before after : List ℕ) (made : ℕ) (tasks : List ℕ) (row : ℕ) (closed : List ℕ) (older : ℕ) (u : RootMade m table before after made tasks row closed older) where
+module _ (m : ℕ) (table before after : List ℕ) (made : ℕ) (tasks : List ℕ) (row : ℕ) (closed : List ℕ) (u : RootMade m table before after made tasks row closed) where
   abbrev new : List (List ℕ)
   new = fieldsAt after made
 
@@ -90,10 +89,6 @@ module _ (m : ℕ) (table before after : List ℕ) (made : ℕ) (tasks : List �
   new-closed : closedIn new ≡ closed
   unfolding rootFields
   new-closed = ap closedIn (u .same .here)
-
-  new-older : olderIn new ≡ older
-  unfolding rootFields
-  new-older = ap olderIn (u .same .here)
 
   abbrev first : ℕ → Option (List ℕ)
   first j = candidate m table (slotPart (take m tasks) row closed j)
@@ -115,32 +110,22 @@ module _ (m : ℕ) (table before after : List ℕ) (made : ℕ) (tasks : List �
       (each-same (slotHere m new) (λ j. slotWith (slotPart (take m tasks) row closed j) (first j)) (countFrom row (m - row))
       (λ j i. let b = mem-countFrom row (m - row) i in slot-made j (b .0) (omega (arith, b .0, b .1))))
 
-  module _ (falls : Older before older) (le : older ≤ made) where
-    old-record : (k : ℕ) → Mem k (rootsAt before older) → fieldsAt after k ≡ fieldsAt before k
-    old-record k i =
-        let l = roots-below (fieldsAt before) older older falls k i in
-        u .same .records k (λ e. omega arith)
+  -- and the other roots have smaller numbers
+  module _ (roots : List ℕ) (low : (k : ℕ) → Mem k roots → k < made) where
+    old-record : (k : ℕ) → Mem k roots → fieldsAt after k ≡ fieldsAt before k
+    old-record k i = let l = low k i in u .same .records k (λ e. omega arith)
 
-    pub roots-made : rootsAt after (made + 1) ≡ made ∷ rootsAt before older
-    unfolding rootsFrom
-    roots-made =
-        let e : made + 1 ≡ suc made = omega arith in
-        let fuel : rootsFrom older (fieldsAt before) older ≡ rootsFrom made (fieldsAt before) older = roots-fuel (fieldsAt before) older older made (omega arith) le falls in
-        rw (e, new-older)
-        (ap (λ (l : List ℕ). made ∷ l) (roots-same (fieldsAt before) (fieldsAt after) made older (λ n i. ap olderIn (old-record n (rw fuel i))) ∙ sym fuel))
-
-    slots-made : slotsAt m after (made + 1) ≡ slotsOf m table (take m tasks) row closed ++ slotsAt m before older
+    slots-made : slotsAt m after (made ∷ roots) ≡ slotsOf m table (take m tasks) row closed ++ slotsAt m before roots
     unfolding slotsAt
     slots-made =
-        rw (roots-made, slots-new)
+        rw slots-new
         (ap (λ (l : List Slot). slotsOf m table (take m tasks) row closed ++ l)
-        (each-same (λ n. rootSlots m (fieldsAt after n)) (λ n. rootSlots m (fieldsAt before n)) (rootsAt before older) (λ n i. ap (rootSlots m) (old-record n i))))
+        (each-same (λ n. rootSlots m (fieldsAt after n)) (λ n. rootSlots m (fieldsAt before n)) roots (λ n i. ap (rootSlots m) (old-record n i))))
 
     module _ (kept : PartKept m tasks closed) where
-      new-rooted : Rooted m table made new
+      new-rooted : Rooted m table new
       new-rooted =
           record {
-            older = rw new-older le;
             part = rw (new-tasks, new-closed) kept;
             slots = λ j a b f. go j f (first j) (candidate-meant m table (slotPart (take m tasks) row closed j)) (u .slots j (rw new-row at a) b);
           }
@@ -152,37 +137,37 @@ module _ (m : ℕ) (table before after : List ℕ) (made : ℕ) (tasks : List �
               let e : take m (slotTasksIn new j) ≡ a = ap (take m) (s .2) ∙ take-list m a (k .0 .0 .as-many) in
               subst (λ (b : List ℕ). SlotFor m table new j (some b)) (sym e) s
 
-      pub made-holds : (rest : List (List ℕ)) → ((n : ℕ) → Mem n (rootsAt before older) → Rooted m table n (fieldsAt before n))
-          → Holds m table (slotsAt m before older ++ slotsOf m table (take m tasks) row closed) rest → PartsHold m table after (made + 1) rest
+      pub made-holds : (rest : List (List ℕ)) → ((n : ℕ) → Mem n roots → Rooted m table (fieldsAt before n)) → Holds m table (slotsAt m before roots ++ slotsOf m table (take m tasks) row closed) rest
+          → PartsHold m table after (made ∷ roots) rest
       made-holds rest old H =
           record {
-            roots = λ n i. ⊎-elim
-                (λ e. subst (λ (k : ℕ). Rooted m table k (fieldsAt after k)) (sym e) new-rooted)
-                (λ k. rw (old-record n k) (old n k)) (cases-cons (subst (Mem n) roots-made i));
-            holds = rw slots-made (holds-turned m table (slotsAt m before older) (slotsOf m table (take m tasks) row closed) rest H);
+            rooted = λ n i. ⊎-elim
+                (λ e. subst (λ (k : ℕ). Rooted m table (fieldsAt after k)) (sym e) new-rooted)
+                (λ k. rw (old-record n k) (old n k)) (cases-cons i);
+            holds = rw slots-made (holds-turned m table (slotsAt m before roots) (slotsOf m table (take m tasks) row closed) rest H);
           }
 
 -- THE NEXT ROOT: the chosen slot is cleared, and the root of its assignment is made
 module _ (m : ℕ) (table before mid : List ℕ) (latest made n j : ℕ) (rest : List (List ℕ)) (small : m ≤ 12) (size : 512 * latest ≤ length before) (le : latest ≤ made)
-    (H : PartsHold m table before latest rest) (chosen : ChosenOf m before latest (slotsAt m before latest) (Chosen n j)) (cleared : Cleared before mid n j) where
+    (H : SlotsHold m table before latest rest) (chosen : FirstSlot m before latest (Chosen n j)) (cleared : Cleared before mid n j) where
   abbrev fs : List (List ℕ)
   fs = fieldsAt before n
 
   abbrev s : Slot
   s = slotOf m fs j
 
-  pub live : Live m before latest n j
-  live = chosen .0
+  pub live : Live m before (H .roots) n j
+  live = chosen table rest H .0
 
   kept : PartKept m (tasksIn fs) (closedIn fs)
-  kept = H .roots n (live .root) .part
+  kept = H .parts .rooted n (live .root) .part
 
-  falls : Older before latest
-  falls k i = H .roots k i .older
+  room : 512 * n + 512 ≤ length before
+  room = omega (arith, H .low n (live .root))
 
   -- the part as bytes is the slot's
   part-tasks : partOf fs j .tasks ≡ taskList (s .first)
-  part-tasks = live-list m table before latest rest small H n j live
+  part-tasks = live-list m table before (H .roots) rest small (H .parts) n j live
 
   part-closed : partOf fs j .closed ≡ s .part .closed
   part-closed =
@@ -209,21 +194,16 @@ module _ (m : ℕ) (table before mid : List ℕ) (latest made n j : ℕ) (rest :
       go d = one (cond (eqb j (rowIn fs)) (closedIn fs) noneClosed) (base (eqb j (rowIn fs))) d
 
   pub part-kept : PartKept m (partOf fs j .tasks) (partOf fs j .closed)
-  part-kept = rw (part-tasks, part-closed) (list-kept m (s .first) (s .part .closed) small (live-unbarred m table before latest rest small H n j live .0) shut)
-
-  pub left-rooted : (k : ℕ) → Mem k (rootsAt mid latest) → Rooted m table k (fieldsAt mid k)
-  left-rooted k i =
-      taken-rooted m before mid latest n j small falls size live cleared table k
-      (H .roots k (subst (Mem k) (taken-roots m before mid latest n j small falls size live cleared) i))
+  part-kept = rw (part-tasks, part-closed) (list-kept m (s .first) (s .part .closed) small (live-unbarred m table before (H .roots) rest small (H .parts) n j live .0) shut)
 
   -- final is what the workspace is after the root has entered the tournament
-  next-made : (after final : List ℕ) → ((others : List (List ℕ)) → PartsHold m table after (made + 1) others → SlotsHold m table final (made + 1) others)
-      → RootMade m table mid after made (partOf fs j .tasks) (partOf fs j .row) (partOf fs j .closed) latest → NextTaken m table final (made + 1) rest (partOf fs j .tasks)
+  next-made : (after final : List ℕ) → ((others : List (List ℕ)) → PartsHold m table after (made ∷ H .roots) others → SlotsHold m table final (made + 1) others)
+      → RootMade m table mid after made (partOf fs j .tasks) (partOf fs j .row) (partOf fs j .closed) → NextTaken m table final (made + 1) rest (partOf fs j .tasks)
   next-made after final entered u =
-      let a = live-unbarred m table before latest rest small H n j live in
-      let w = taken-slots m before mid latest n j small falls size live cleared in
-      let next = next-in-order m small table (w .left) s (w .right) (subst (λ (l : List Slot). Best m table l s) (w .whole) (chosen .1 table rest small H)) rest
-      (subst (λ (l : List Slot). Holds m table l rest) (w .whole) (H .holds)) in
+      let a = live-unbarred m table before (H .roots) rest small (H .parts) n j live in
+      let w = taken-slots m before mid (H .roots) n j small room live cleared (H .falls) in
+      let next = next-in-order m small table (w .left) s (w .right) (subst (λ (l : List Slot). Best m table l s) (w .whole) (chosen table rest H .1 table rest small (H .parts))) rest
+      (subst (λ (l : List Slot). Holds m table l rest) (w .whole) (H .parts .holds)) in
       let e : take m (partOf fs j .tasks) ≡ s .first = ap (take m) part-tasks ∙ take-list m (s .first) (a .0 .as-many) in
       record {
         next = s .first;
@@ -232,8 +212,8 @@ module _ (m : ℕ) (table before mid : List ℕ) (latest made n j : ℕ) (rest :
         unbarred = a;
         list = part-tasks;
         hold = entered (next .0)
-            (made-holds m table mid after made (partOf fs j .tasks) j (partOf fs j .closed) latest u (λ k i. left-rooted k i .older) le
-            part-kept (next .0) left-rooted
+            (made-holds m table mid after made (partOf fs j .tasks) j (partOf fs j .closed) u (H .roots) (λ k i. omega (arith, H .low k i)) part-kept (next .0)
+            (λ k i. taken-rooted m before mid (H .roots) n j small room live cleared table k (H .parts .rooted k i))
             (rw (e, part-closed, w .rest) (next .2)));
       }
 
@@ -245,27 +225,25 @@ module _ (m : ℕ) (table before mid : List ℕ) (latest made n j : ℕ) (rest :
     pub handed-kept : PartKept m (p .tasks) (p .closed)
     handed-kept = subst (λ (q : RootPart). PartKept m (q .tasks) (q .closed)) (sym e) part-kept
 
-    pub next-handed : (after final : List ℕ) → ((others : List (List ℕ)) → PartsHold m table after (made + 1) others → SlotsHold m table final (made + 1) others)
-        → RootMade m table mid after made (p .tasks) (p .row) (p .closed) latest → NextTaken m table final (made + 1) rest (p .tasks)
-    next-handed after final entered = subst (λ (q : RootPart). RootMade m table mid after made (q .tasks) (q .row) (q .closed) latest → NextTaken m table final (made + 1) rest (q .tasks)) (sym e) (next-made after final entered)
+    pub next-handed : (after final : List ℕ) → ((others : List (List ℕ)) → PartsHold m table after (made ∷ H .roots) others → SlotsHold m table final (made + 1) others)
+        → RootMade m table mid after made (p .tasks) (p .row) (p .closed) → NextTaken m table final (made + 1) rest (p .tasks)
+    next-handed after final entered = subst (λ (q : RootPart). RootMade m table mid after made (q .tasks) (q .row) (q .closed) → NextTaken m table final (made + 1) rest (q .tasks)) (sym e) (next-made after final entered)
 
 -- a chosen slot is in the workspace
-pub chosen-inside : (m : ℕ) (table work : List ℕ) (latest n j : ℕ) (rest : List (List ℕ)) → m ≤ 12 → PartsHold m table work latest rest → ChosenOf m work latest (slotsAt m work latest) (Chosen n j)
+pub chosen-inside : (m : ℕ) (table work : List ℕ) (latest n j : ℕ) (rest : List (List ℕ)) → m ≤ 12 → SlotsHold m table work latest rest → FirstSlot m work latest (Chosen n j)
     → (n < latest) × (j < 12) × (tasksIn (fieldsAt work n) at j < 12)
 chosen-inside m table work latest n j rest small H chosen =
-    let v = chosen .0 in (
-      roots-below (fieldsAt work) latest latest (λ k i. H .roots k i .older) n (v .root),
+    let v = chosen table rest H .0 in (
+      H .low n (v .root),
       omega (arith, v .high),
-      H .roots n (v .root) .part .low j (v .high),
+      H .parts .rooted n (v .root) .part .low j (v .high),
     )
 
-no-slots : (m : ℕ) (work : List ℕ) → slotsAt m work 0 ≡ []
-unfolding slotsAt
-no-slots m work = rw (no-roots (fieldsAt work) 0)
-
 -- THE FIRST ROOT
-pub first-made : (m : ℕ) (table before after final a : List ℕ) → 0 < m → m ≤ 12 → leastAssignment m table ≡ some a → ((others : List (List ℕ)) → PartsHold m table after 1 others → SlotsHold m table final 1 others)
-    → RootMade m table before after 0 (taskList a) 0 noneClosed 0 → NextTaken m table final 1 (assignmentsInOrder m table) (taskList a)
+pub first-made : (m : ℕ) (table before after final a : List ℕ) → 0 < m → m ≤ 12 → leastAssignment m table ≡ some a
+    → ((others : List (List ℕ)) → PartsHold m table after (0 ∷ []) others → SlotsHold m table final 1 others)
+    → RootMade m table before after 0 (taskList a) 0 noneClosed → NextTaken m table final 1 (assignmentsInOrder m table) (taskList a)
+unfolding slotsAt
 first-made m table before after final a pos small e entered u =
     let f = first-in-order m small table pos a e in
     let h = least-assignment-meant m table a e .0 in
@@ -276,15 +254,10 @@ first-made m table before after final a pos small e entered u =
       unbarred = h;
       list = refl;
       hold = entered (f .0)
-          (made-holds m table before after 0 (taskList a) 0 noneClosed 0 u (λ n i. absurd (not-nil (rw (no-roots (fieldsAt before) 0) at i))) (omega arith) (list-kept m a noneClosed small (h .0) (λ i. omega (arith, none-closed i))) (f .0) (λ n i. absurd (not-nil (rw (no-roots (fieldsAt before) 0) at i)))
-          (rw (take-list m a (h .0 .as-many), no-slots m before) (f .2)));
+          (made-holds m table before after 0 (taskList a) 0 noneClosed u [] (λ k i. absurd (not-nil i)) (list-kept m a noneClosed small (h .0) (λ i. omega (arith, none-closed i))) (f .0) (λ n i. absurd (not-nil i))
+          (rw (take-list m a (h .0 .as-many)) (f .2)));
     }
 
--- WHAT THE CALLS ASK AND SAY, from the invariant
-module _ (m : ℕ) (table work : List ℕ) (latest : ℕ) (rest : List (List ℕ)) (H : SlotsHold m table work latest rest) where
-  pub slots-older : Older work latest
-  slots-older n i = H .parts .roots n i .older
-
-  -- without a slot none remains
-  pub nothing-left : m ≤ 12 → ChosenOf m work latest (slotsAt m work latest) Nothing → rest ≡ []
-  nothing-left small e = none-remains m small table rest (subst (λ (l : List Slot). Holds m table l rest) e (H .parts .holds))
+-- without a slot none remains
+pub nothing-left : (m : ℕ) (table work : List ℕ) (latest : ℕ) (rest : List (List ℕ)) → m ≤ 12 → SlotsHold m table work latest rest → FirstSlot m work latest Nothing → rest ≡ []
+nothing-left m table work latest rest small H chosen = none-remains m small table rest (subst (λ (l : List Slot). Holds m table l rest) (chosen table rest H) (H .parts .holds))

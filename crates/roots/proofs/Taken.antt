@@ -12,10 +12,9 @@ use borrow.Author.Tests.{eq-eqb, ne-eqb}
 use Rattle.deck.specs.Lists.{countFrom, each}
 use Rattle.meaning.proofs.Lists.{countFrom-mem, Sorted, sorted-countFrom}
 use Rattle.records.specs.Cut.{part}
-use Rattle.records.specs.Record.{fieldsAt, tasksIn, rowIn, closedIn, slotIn, flagIn, sumIn, slotTasksIn, olderIn}
-use Rattle.roots.specs.Slots.{rootsAt, slotOf, slotHere, rootSlots, slotsAt, Older, SlotFor, Rooted}
+use Rattle.records.specs.Record.{fieldsAt, tasksIn, rowIn, closedIn, slotIn, flagIn, sumIn, slotTasksIn}
+use Rattle.roots.specs.Slots.{slotOf, slotHere, rootSlots, slotsAt, SlotFor, Rooted}
 use Rattle.roots.specs.Choices.{Live, Cleared}
-use Rattle.roots.proofs.Chains.{roots-below, roots-fall, roots-same}
 use Rattle.roots.proofs.Filling.{fields-long, slots-long, slot-same, slot-other, field-other, slot-long}
 use Rattle.roots.proofs.Playing.{SameOrder, order-slots}
 
@@ -62,7 +61,7 @@ module _ {A : Type 0} where
       go (no e) again = rw (same x e) (without-behind (G x) (each F ns) (each G ns) s (again (⊎-elim (λ z. absurd (e (sym z))) (λ k. k) (cases-cons m))))
 
 -- A SLOT IS CLEARED
-module _ (m : ℕ) (work after : List ℕ) (latest n j : ℕ) (small : m ≤ 12) (falls : Older work latest) (size : 512 * latest ≤ length work) (v : Live m work latest n j) (u : Cleared work after n j) where
+module _ (m : ℕ) (work after roots : List ℕ) (n j : ℕ) (small : m ≤ 12) (room : 512 * n + 512 ≤ length work) (v : Live m work roots n j) (u : Cleared work after n j) where
   abbrev fs : List (List ℕ)
   fs = fieldsAt work n
 
@@ -71,9 +70,6 @@ module _ (m : ℕ) (work after : List ℕ) (latest n j : ℕ) (small : m ≤ 12)
 
   abbrev ys : List ℕ
   ys = set (slotIn (fieldsAt work n) j) 0 0
-
-  room : 512 * n + 512 ≤ length work
-  room = omega (arith, roots-below (fieldsAt work) latest latest falls n (v .root))
 
   low : j < 12
   low = omega (arith, v .high)
@@ -100,7 +96,7 @@ module _ (m : ℕ) (work after : List ℕ) (latest n j : ℕ) (small : m ≤ 12)
   row-kept = ap (λ (l : List ℕ). getD l 0 0) (same-field 4 (λ e. omega arith))
 
   closed-kept : closedIn gs ≡ closedIn fs
-  closed-kept = same-field 9 (λ e. omega arith)
+  closed-kept = same-field 8 (λ e. omega arith)
 
   here-kept : (i : ℕ) → i ≢ j → slotHere m fs i ≡ slotHere m gs i
   unfolding slotHere
@@ -118,13 +114,6 @@ module _ (m : ℕ) (work after : List ℕ) (latest n j : ℕ) (small : m ≤ 12)
       rw row-kept
       (without-each _<_ (λ x y l e. omega arith) (slotHere m fs) (slotHere m gs) j (slotOf m fs j) here-kept taken-here (countFrom (rowIn fs) (m - rowIn fs)) (sorted-countFrom (rowIn fs) (m - rowIn fs))
       (countFrom-mem (rowIn fs) (m - rowIn fs) j (v .low) (omega (arith, v .low, v .high))))
-
-  pub taken-roots : rootsAt after latest ≡ rootsAt work latest
-  taken-roots = roots-same (fieldsAt work) (fieldsAt after) latest latest (λ k i. go k (ℕ-discrete k n))
-    where
-      go : (k : ℕ) → Dec (k ≡ n) → olderIn (fieldsAt after k) ≡ olderIn (fieldsAt work k)
-      go k (yes e) = rw e (ap (λ (l : List ℕ). getD l 0 0) (same-field 8 (λ z. omega arith)))
-      go k (no e) = ap olderIn (u .records k e)
 
   -- no word of the tournament is written, and of the slots neither a sum nor a task is
   pub taken-tournament : (k : ℕ) → getD (fieldsAt after k) 5 [] ≡ getD (fieldsAt work k) 5 []
@@ -155,24 +144,18 @@ module _ (m : ℕ) (work after : List ℕ) (latest n j : ℕ) (small : m ≤ 12)
       go (no e) = order-slots (fieldsAt after k) (fieldsAt work k) (ap (λ (l : List (List ℕ)). getD l 6 []) (u .records k e))
 
   -- the others remain
-  pub taken-slots : Without (slotsAt m work latest) (slotsAt m after latest) (slotOf m fs j)
+  pub taken-slots : Sorted (λ x y. y < x) roots → Without (slotsAt m work roots) (slotsAt m after roots) (slotOf m fs j)
   unfolding slotsAt
-  taken-slots =
-      rw taken-roots
-      (without-each (λ x y. y < x) (λ x y l e. omega arith) (λ k. rootSlots m (fieldsAt work k)) (λ k. rootSlots m (fieldsAt after k)) n (slotOf m fs j) (λ k ne. ap (rootSlots m) (sym (u .records k ne))) taken-root
-      (rootsAt work latest) (roots-fall (fieldsAt work) latest latest falls) (v .root))
+  taken-slots falls =
+      without-each (λ x y. y < x) (λ x y l e. omega arith) (λ k. rootSlots m (fieldsAt work k)) (λ k. rootSlots m (fieldsAt after k)) n (slotOf m fs j) (λ k ne. ap (rootSlots m) (sym (u .records k ne))) taken-root
+      roots falls (v .root)
 
   -- and their words are as they were
-  pub taken-rooted : (table : List ℕ) (k : ℕ) → Rooted m table k (fieldsAt work k) → Rooted m table k (fieldsAt after k)
+  pub taken-rooted : (table : List ℕ) (k : ℕ) → Rooted m table (fieldsAt work k) → Rooted m table (fieldsAt after k)
   taken-rooted table k r = go (ℕ-discrete k n)
     where
-      kept : Rooted m table n fs → Rooted m table n gs
-      kept q =
-          record {
-            older = rw (same-field 8 (λ z. omega arith)) (q .older);
-            part = rw (tasks-kept, closed-kept) (q .part);
-            slots = λ i a b f. one i a b f (ℕ-discrete i j);
-          }
+      kept : Rooted m table fs → Rooted m table gs
+      kept q = record { part = rw (tasks-kept, closed-kept) (q .part); slots = λ i a b f. one i a b f (ℕ-discrete i j) }
         where
           one : (i : ℕ) → rowIn gs ≤ i → i < m → flagIn gs i ≡ 1 → Dec (i ≡ j) → SlotFor m table gs i (some (take m (slotTasksIn gs i)))
           one i a b f (yes e) = absurd (omega (arith, no-flag, sym (ap (flagIn gs) e) ∙ f))
@@ -180,6 +163,6 @@ module _ (m : ℕ) (work after : List ℕ) (latest n j : ℕ) (small : m ≤ 12)
               rw (other-slot i e)
               (q .slots i (rw row-kept at a) b (sym (ap (λ (l : List ℕ). getD l 0 0) (other-slot i e)) ∙ f))
 
-      go : Dec (k ≡ n) → Rooted m table k (fieldsAt after k)
-      go (yes e) = subst (λ (i : ℕ). Rooted m table i (fieldsAt after i)) (sym e) (kept (subst (λ (i : ℕ). Rooted m table i (fieldsAt work i)) e r))
+      go : Dec (k ≡ n) → Rooted m table (fieldsAt after k)
+      go (yes e) = subst (λ (i : ℕ). Rooted m table (fieldsAt after i)) (sym e) (kept (subst (λ (i : ℕ). Rooted m table (fieldsAt work i)) e r))
       go (no e) = rw (u .records k e) r

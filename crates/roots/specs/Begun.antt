@@ -21,8 +21,7 @@ pub record PartsAlike (fs gs : List (List ℕ)) : Type 0 where
   pub tasks : getD fs 2 [] ≡ getD gs 2 []
   pub row : getD fs 4 [] ≡ getD gs 4 []
   pub slots : getD fs 6 [] ≡ getD gs 6 []
-  pub older : getD fs 8 [] ≡ getD gs 8 []
-  pub closed : getD fs 9 [] ≡ getD gs 9 []
+  pub closed : getD fs 8 [] ≡ getD gs 8 []
 
 -- and the word of the tournament
 pub record SlotsAlike (fs gs : List (List ℕ)) : Type 0 where

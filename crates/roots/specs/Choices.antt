@@ -9,7 +9,7 @@ use Rattle.partition.specs.Parts.{slotPart, Slot, Best}
 use Rattle.assignment.specs.Answers.{lessFrom}
 use Rattle.assignment.specs.declared.order.Candidate.{Candidate}
 use Rattle.records.specs.Record.{fieldsAt, tasksIn, rowIn, closedIn, slotIn, flagIn, sumIn, slotTasksIn, bytes, withSlot, Wrote}
-use Rattle.roots.specs.Slots.{rootsAt, slotOf, PartsHold}
+use Rattle.roots.specs.Slots.{slotOf, PartsHold}
 use Rattle.roots.specs.declared.Choice.{Choice}
 use Rattle.roots.specs.declared.Choice.the-variants.{Nothing, Slot as Chosen}
 use Rattle.roots.specs.declared.RootPart.{RootPart}
@@ -40,18 +40,18 @@ Inside size Nothing = Unit {0}
 Inside size (Chosen n j) = (512 * n + 512 ≤ size) × (j < 12)
 
 -- slot j of root n is one of the slots
-pub record Live (m : ℕ) (work : List ℕ) (latest n j : ℕ) : Type 0 where
-  pub root : Mem n (rootsAt work latest)
+pub record Live (m : ℕ) (work roots : List ℕ) (n j : ℕ) : Type 0 where
+  pub root : Mem n roots
   pub low : rowIn (fieldsAt work n) ≤ j
   pub high : j < m
   pub flag : flagIn (fieldsAt work n) j ≡ 1
 
 -- of some slots there is none; or the chosen one's assignment is no later than those of the others
-abbrev pub ChosenOf : ℕ → List ℕ → ℕ → List Slot → Choice → Type 0
-ChosenOf m work latest slots Nothing = slots ≡ []
-ChosenOf m work latest slots (Chosen n j) =
-    Live m work latest n j
-    × ((table : List ℕ) (rest : List (List ℕ)) → m ≤ 12 → PartsHold m table work latest rest → Best m table slots (slotOf m (fieldsAt work n) j))
+abbrev pub ChosenOf : ℕ → List ℕ → List ℕ → List Slot → Choice → Type 0
+ChosenOf m work roots slots Nothing = slots ≡ []
+ChosenOf m work roots slots (Chosen n j) =
+    Live m work roots n j
+    × ((table : List ℕ) (rest : List (List ℕ)) → m ≤ 12 → PartsHold m table work roots rest → Best m table slots (slotOf m (fieldsAt work n) j))
 
 -- the part and the first assignment of slot j of a root with the fields fs
 abbrev pub partOf : List (List ℕ) → ℕ → RootPart

@@ -1,6 +1,6 @@
 -- The assignments that remain, as the slots of the roots' records: each slot is one of Murty's parts with its first assignment.
 -- Assumes nothing.
-use Prim.Native.Nat.{ℕ, zero, suc, _+_, _-_, _<_, _≤_}
+use Prim.Native.Nat.{ℕ, _-_, _<_, _≤_}
 use mathlib.Core.Path.{_≡_}
 use mathlib.Core.Bool.{cond}
 use mathlib.Core.List.{List, [], _∷_, List·Memᴰ as Mem}
@@ -12,17 +12,7 @@ use Rattle.deck.specs.Assignments.{sumOf}
 use Rattle.deck.specs.Calls.{taskList}
 use Rattle.meaning.specs.Meaning.{_at_}
 use Rattle.partition.specs.Parts.{slotPart, Slot, candidate, Holds}
-use Rattle.records.specs.Record.{fieldsAt, tasksIn, rowIn, closedIn, flagIn, sumIn, slotTasksIn, olderIn, rootFields, Wrote}
-
--- the numbers of the roots along the links to older ones, with fuel: a link is 0, or the number of a root + 1
-unfoldable pub rootsFrom : ℕ → (ℕ → List (List ℕ)) → ℕ → List ℕ
-rootsFrom zero f link = []
-rootsFrom (suc k) f zero = []
-rootsFrom (suc k) f (suc n) = n ∷ rootsFrom k f (olderIn (f n))
-
--- the roots from the link to the latest on: an older root has a smaller number, so that as many turns as the link says suffice
-abbrev pub rootsAt : List ℕ → ℕ → List ℕ
-rootsAt work latest = rootsFrom latest (fieldsAt work) latest
+use Rattle.records.specs.Record.{fieldsAt, tasksIn, rowIn, closedIn, flagIn, sumIn, slotTasksIn, rootFields, Wrote}
 
 -- slot j of a root with the fields fs
 abbrev pub slotOf : ℕ → List (List ℕ) → ℕ → Slot
@@ -36,13 +26,9 @@ slotHere m fs j = cond (eqb (flagIn fs j) 1) (slotOf m fs j ∷ []) []
 unfoldable pub rootSlots : ℕ → List (List ℕ) → List Slot
 rootSlots m fs = each (slotHere m fs) (countFrom (rowIn fs) (m - rowIn fs))
 
--- the slots of all roots
-unfoldable pub slotsAt : ℕ → List ℕ → ℕ → List Slot
-slotsAt m work latest = each (λ n. rootSlots m (fieldsAt work n)) (rootsAt work latest)
-
--- links to older roots lead to smaller numbers, so that the walk along them ends
-abbrev pub Older : List ℕ → ℕ → Type 0
-Older work latest = (n : ℕ) → Mem n (rootsAt work latest) → olderIn (fieldsAt work n) ≤ n
+-- the slots of some roots, by their numbers
+unfoldable pub slotsAt : ℕ → List ℕ → List ℕ → List Slot
+slotsAt m work roots = each (λ n. rootSlots m (fieldsAt work n)) roots
 
 -- the words of a slot with the first assignment of its part, or of a slot whose part is empty
 abbrev pub SlotFor : ℕ → List ℕ → List (List ℕ) → ℕ → Option (List ℕ) → Type 0
@@ -55,16 +41,15 @@ pub record PartKept (m : ℕ) (tasks closed : List ℕ) : Type 0 where
   pub tasks-small : (i : ℕ) → tasks at i < 256
   pub closed-small : (i : ℕ) → closed at i < 256
 
--- what holds of the fields of root n; a slot that is not empty has its assignment's sum and its list of 12
-pub record Rooted (m : ℕ) (table : List ℕ) (n : ℕ) (fs : List (List ℕ)) : Type 0 where
-  pub older : olderIn fs ≤ n
+-- what holds of the fields of a root; a slot that is not empty has its assignment's sum and its list of 12
+pub record Rooted (m : ℕ) (table : List ℕ) (fs : List (List ℕ)) : Type 0 where
   pub part : PartKept m (tasksIn fs) (closedIn fs)
   pub slots : (j : ℕ) → rowIn fs ≤ j → j < m → flagIn fs j ≡ 1 → SlotFor m table fs j (some (take m (slotTasksIn fs j)))
 
 -- the slots of the roots hold the assignments that remain
-pub record PartsHold (m : ℕ) (table : List ℕ) (work : List ℕ) (latest : ℕ) (rest : List (List ℕ)) : Type 0 where
-  pub roots : (n : ℕ) → Mem n (rootsAt work latest) → Rooted m table n (fieldsAt work n)
-  pub holds : Holds m table (slotsAt m work latest) rest
+pub record PartsHold (m : ℕ) (table work roots : List ℕ) (rest : List (List ℕ)) : Type 0 where
+  pub rooted : (n : ℕ) → Mem n roots → Rooted m table (fieldsAt work n)
+  pub holds : Holds m table (slotsAt m work roots) rest
 
 -- the slots of root n are filled: each has the first assignment of its part; nothing but slots of root n is written
 pub record Filled (m : ℕ) (table before after : List ℕ) (n : ℕ) : Type 0 where
@@ -74,6 +59,6 @@ pub record Filled (m : ℕ) (table before after : List ℕ) (n : ℕ) : Type 0 w
       (candidate m table (slotPart (take m (tasksIn (fieldsAt before n))) (rowIn (fieldsAt before n)) (closedIn (fieldsAt before n)) j))
 
 -- the record of root n is made, without its paths, and its slots are filled
-pub record RootMade (m : ℕ) (table before after : List ℕ) (n : ℕ) (tasks : List ℕ) (row : ℕ) (closed : List ℕ) (older : ℕ) : Type 0 where
-  pub same : Wrote before after n (set (rootFields tasks row closed older) 6 (getD (fieldsAt after n) 6 []))
+pub record RootMade (m : ℕ) (table before after : List ℕ) (n : ℕ) (tasks : List ℕ) (row : ℕ) (closed : List ℕ) : Type 0 where
+  pub same : Wrote before after n (set (rootFields tasks row closed) 6 (getD (fieldsAt after n) 6 []))
   pub slots : (j : ℕ) → row ≤ j → j < m → SlotFor m table (fieldsAt after n) j (candidate m table (slotPart (take m tasks) row closed j))

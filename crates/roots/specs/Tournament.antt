@@ -10,9 +10,10 @@ use lib.Dec.{ltb}
 use Rattle.deck.specs.Lists.{countFrom}
 use Rattle.deck.specs.Calls.{taskList}
 use Rattle.meaning.specs.Meaning.{Unbarred}
+use Rattle.meaning.proofs.Lists.{Sorted}
 use Rattle.records.specs.Record.{fieldsAt, rowIn, tournamentIn, keyAt}
-use Rattle.roots.specs.Slots.{rootsAt, PartsHold}
-use Rattle.roots.specs.Choices.{firstOf, overSlots}
+use Rattle.roots.specs.Slots.{slotsAt, PartsHold}
+use Rattle.roots.specs.Choices.{firstOf, overSlots, ChosenOf}
 use Rattle.roots.specs.declared.Choice.{Choice}
 use Rattle.roots.specs.declared.Choice.the-variants.{Nothing, Slot as Chosen}
 
@@ -85,10 +86,10 @@ pub record Played (work : List ℕ) (latest : ℕ) : Type 0 where
   pub first : (k : ℕ) → k < latest → winAt work k ≡ firstHere work latest k
 
 -- THE TOURNAMENT: it is played, with the first of its slots for each root and none for each other number
-pub record Tournament (m : ℕ) (work : List ℕ) (latest : ℕ) : Type 0 where
+pub record Tournament (m : ℕ) (work : List ℕ) (latest : ℕ) (roots : List ℕ) : Type 0 where
   pub played : Played work latest
-  pub roots : (k : ℕ) → Mem k (rootsAt work latest) → ownAt work k ≡ bestOwn m work k
-  pub others : (k : ℕ) → k < latest → (ownAt work k ≡ Nothing) ⊎ Mem k (rootsAt work latest)
+  pub own : (k : ℕ) → Mem k roots → ownAt work k ≡ bestOwn m work k
+  pub others : (k : ℕ) → k < latest → (ownAt work k ≡ Nothing) ⊎ Mem k roots
 
 -- WRITES
 
@@ -135,10 +136,19 @@ pub record Entered (m : ℕ) (before after : List ℕ) (latest made n : ℕ) : T
   pub old : (k : ℕ) → k < latest → k ≢ n → k ≢ made → ownAt after k ≡ ownAt before k
   pub new : (k : ℕ) → latest ≤ k → k < made → k ≢ n → ownAt after k ≡ Nothing
 
--- THE INVARIANT: the slots of the roots hold the assignments that remain, and the tournament says which comes first
+-- THE INVARIANT: the slots of the roots, whose numbers fall from below latest, hold the assignments that remain, and the
+-- tournament says which comes first
 pub record SlotsHold (m : ℕ) (table : List ℕ) (work : List ℕ) (latest : ℕ) (rest : List (List ℕ)) : Type 0 where
-  pub parts : PartsHold m table work latest rest
-  pub tournament : Tournament m work latest
+  pub roots : List ℕ
+  pub low : (n : ℕ) → Mem n roots → n < latest
+  pub falls : Sorted (λ x y. y < x) roots
+  pub parts : PartsHold m table work roots rest
+  pub tournament : Tournament m work latest roots
+
+-- a choice is that of the slot whose assignment comes first, or there is no slot
+abbrev pub FirstSlot : ℕ → List ℕ → ℕ → Choice → Type 0
+FirstSlot m work latest choice =
+    (table : List ℕ) (rest : List (List ℕ)) (H : SlotsHold m table work latest rest) → ChosenOf m work (H .roots) (slotsAt m work (H .roots)) choice
 
 -- the next assignment, whose list of 12 is tasks, is taken from those that remain: the slots after it hold the others
 pub record NextTaken (m : ℕ) (table after : List ℕ) (latest : ℕ) (rest : List (List ℕ)) (tasks : List ℕ) : Type 0 where

@@ -13,9 +13,9 @@ ghost use Rattle.deck.specs.Calls.{taskList};
 ghost use Rattle.meaning.specs.Meaning.{_at_};
 ghost use Rattle.prices.specs.Square.{copied};
 ghost use Rattle.records.specs.Record.{fieldsAt, tasksIn, rowIn, closedIn, slotIn, slotTasksIn, bytes, withSlot, Wrote};
-ghost use Rattle.roots.specs.Slots.{slotsAt, Older, PartKept, Filled, RootMade};
-ghost use Rattle.roots.specs.Choices.{slotBefore, firstOf, betterOf, overSlots, Inside, ChosenOf, partOf, Cleared, slotWords};
-ghost use Rattle.roots.specs.Tournament.{codeOf, choiceOf, slotCode, winBelow, ownAt, firstChoice, firstHere, Below, Of, Named, PlayedBut, Played, Tournament, WordPut, Climbed, Refreshed, Emptied, Entered, SlotsHold, NextTaken};
+ghost use Rattle.roots.specs.Slots.{PartKept, Filled, RootMade};
+ghost use Rattle.roots.specs.Choices.{slotBefore, firstOf, betterOf, overSlots, Inside, partOf, Cleared, slotWords};
+ghost use Rattle.roots.specs.Tournament.{codeOf, choiceOf, slotCode, winBelow, ownAt, firstChoice, firstHere, Below, Of, Named, PlayedBut, Played, WordPut, Climbed, Refreshed, Emptied, Entered, SlotsHold, FirstSlot, NextTaken};
 ghost use Rattle.roots.specs.Begun.{RootBegun};
 
 // The slot to take next.
@@ -256,8 +256,8 @@ fn enter(work: &mut [u32], m: usize, latest: usize, made: usize, n: usize)
 
 // The slot whose assignment comes first. `latest` is the number of the latest root + 1, or 0 without a root.
 pub fn next_slot(work: &[u32], m: usize, latest: usize) -> Choice
-    requires { ⌜ (512 * latest ≤ length (now work)) × Older (now work) latest × Tournament m (now work) latest ⌝ }
-    ensures { λ r. ⌜ ChosenOf m (now (work .entry)) latest (slotsAt m (now (work .entry)) latest) r ⌝ }
+    requires { ⌜ 512 * latest ≤ length (now work) ⌝ }
+    ensures { λ r. ⌜ FirstSlot m (now (work .entry)) latest r ⌝ }
 {
     win_of(work, latest, 0)
 }
@@ -309,14 +309,14 @@ pub fn fill_slots(work: &mut [u32], m: usize, t: &[u16; 144], n: usize)
 }
 
 // Writes the record of root n without its paths, and fills its slots.
-pub fn make_root(work: &mut [u32], m: usize, t: &[u16; 144], n: usize, root: RootPart, older: usize)
-    requires { ⌜ (m ≤ 12) × (512 * n + 512 ≤ length (now work)) × (root .row < 4294967296) × (older < 4294967296) × PartKept m (root .tasks) (root .closed) ⌝ }
-    ensures { λ _. ⌜ RootMade m (copied m (now (t .entry))) (now (work .entry)) (now (work .exit)) n (root .tasks) (root .row) (root .closed) older ⌝ }
+pub fn make_root(work: &mut [u32], m: usize, t: &[u16; 144], n: usize, root: RootPart)
+    requires { ⌜ (m ≤ 12) × (512 * n + 512 ≤ length (now work)) × (root .row < 4294967296) × PartKept m (root .tasks) (root .closed) ⌝ }
+    ensures { λ _. ⌜ RootMade m (copied m (now (t .entry))) (now (work .entry)) (now (work .exit)) n (root .tasks) (root .row) (root .closed) ⌝ }
 {
     let tasks = root.tasks;
     let row = root.row;
     let closed = root.closed;
-    records::begin_root(work, n, tasks, row, closed, older);
+    records::begin_root(work, n, tasks, row, closed);
     fill_slots(work, m, t, n);
 }
 
@@ -337,7 +337,6 @@ pub fn first_root(work: &mut [u32], m: usize, t: &[u16; 144], tasks: [u8; 12])
             row: 0,
             closed: none,
         },
-        0,
     );
     enter(work, m, 0, 0, 0);
 }
@@ -354,14 +353,14 @@ pub fn next_root(
     j: usize,
 ) -> [u8; 12]
     requires { ⌜ (m ≤ 12) × (latest ≤ made) × (made ≤ 4096) × (512 * made + 512 ≤ length (now work)) ⌝ }
-    requires { ⌜ ChosenOf m (now work) latest (slotsAt m (now work) latest) (Choice.Slot n j) ⌝ }
+    requires { ⌜ FirstSlot m (now work) latest (Choice.Slot n j) ⌝ }
     requires { ⌜ ((rest : List (List ℕ)) × SlotsHold m (copied m (now t)) (now work) latest rest) ⌝ }
     ensures begun { λ r. ⌜ RootBegun (now (work .entry)) (now (work .exit)) made r ⌝ }
     ensures hold { λ r. ⌜ ((rest : List (List ℕ)) → SlotsHold m (copied m (now (t .entry))) (now (work .entry)) latest rest → NextTaken m (copied m (now (t .entry))) (now (work .exit)) (made + 1) rest r) ⌝ }
 {
     let root = take_slot(work, n, j);
     let tasks = root.tasks;
-    make_root(work, m, t, made, root, latest);
+    make_root(work, m, t, made, root);
     enter(work, m, latest, made, n);
     tasks
 }

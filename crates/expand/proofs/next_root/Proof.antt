@@ -6,10 +6,9 @@ use native.Mathlib.Omega.{arith}
 use Prim.Native.Nat.{_<_}
 use Rattle.deck.specs.Sheet.{read}
 use Rattle.nodes.specs.Nodes.{nodeAt}
-use Rattle.roots.specs.Slots.{slotsAt}
-use Rattle.roots.specs.Choices.{ChosenOf}
+use Rattle.roots.specs.Tournament.{FirstSlot}
 use Rattle.expand.proofs.MakingRoots.{room-record, limit-low, given-kept, same-none, same-then}
-use Rattle.expand.proofs.MakingRoots2.{heldState, no-root, none-remain, none-more, one-more, is-no-root, is-root, latest-room, few-carriers, slots-asked, slots-fall, slots-played, without-slot, with-slot, next-begun, next-same}
+use Rattle.expand.proofs.MakingRoots2.{heldState, no-root, none-remain, none-more, one-more, is-no-root, is-root, latest-room, few-carriers, slots-asked, without-slot, with-slot, next-begun, next-same}
 use Rattle.expand.proofs.next_root.Statement.{statement}
 use Rattle.expand.proofs.next_root.Tie as tie
 
@@ -36,8 +35,7 @@ byte-at-requires c κs = search needs
 next-slot-requires : tie.Need-next-slot-requires
 next-slot-requires c κs =
     let q = c .before .before .before .before .before .before .before .before .pre in
-    let m = c .before .byte-at .ensures .0 in
-    (latest-room (q .0) (q .2 .1), slots-fall (q .0) (q .2 .1) m, slots-played (q .0) (q .2 .1) m)
+    latest-room (q .0) (q .2 .1)
 
 enum-known-from : tie.Need-enum-known-from
 enum-known-from c = search needs
@@ -85,7 +83,7 @@ next-root-requires c κs =
     let less : c .before .before .before .before .before .before .before .before .before .before .before .before .before .before .before .args .made < read (c .before .before .before .before .before .before .before .before .before .before .before .before .before .before .before .args .s .now) .limit = omega (arith, h .within, c .before .before .word-at .ensures .0, c .before .if2 .left) in (
       (few-carriers (q .0) h m, h .recent, omega (arith, limit-low (q .0)), room-record (q .0) (c .before .before .before .before .before .before .before .before .before .before .before .before .before .before .before .args .made) less),
       (
-        subst (ChosenOf (c .before .before .before .before .before .before .before .before .byte-at .result) (c .before .before .before .before .before .before .before .before .before .before .before .before .before .before .before .args .work .now) (c .before .before .before .before .before .before .before .before .before .before .before .before .before .before .before .args .latest) (slotsAt (c .before .before .before .before .before .before .before .before .byte-at .result) (c .before .before .before .before .before .before .before .before .before .before .before .before .before .before .before .args .work .now) (c .before .before .before .before .before .before .before .before .before .before .before .before .before .before .before .args .latest)))
+        subst (FirstSlot (c .before .before .before .before .before .before .before .before .byte-at .result) (c .before .before .before .before .before .before .before .before .before .before .before .before .before .before .before .args .work .now) (c .before .before .before .before .before .before .before .before .before .before .before .before .before .before .before .args .latest))
             (c .before .before .before .before .from .given .1) (c .before .before .before .before .before .before .next-slot .ensures),
         (q .2 .0 .rest, slots-asked (q .0) h m),
       ),

@@ -4,18 +4,14 @@ use mathlib.Core.Path.{refl, sym, subst}
 use mathlib.Core.List.{List}
 use native.Mathlib.Omega.{arith}
 use Rattle.prices.specs.Square.{copied}
-use Rattle.roots.specs.Slots.{slotsAt}
-use Rattle.roots.specs.Choices.{ChosenOf}
-use Rattle.roots.specs.Tournament.{NextTaken}
-use Rattle.roots.proofs.Made.{slots-older, nothing-left}
+use Rattle.roots.specs.Tournament.{FirstSlot, NextTaken}
+use Rattle.roots.proofs.Made.{nothing-left}
 use borrow.Author.Needs.{needs}
 use Rattle.in_order.proofs.take_next.Statement.{statement}
 use Rattle.in_order.proofs.take_next.Tie as tie
 
 next-slot-requires : tie.Need-next-slot-requires
-next-slot-requires c κs =
-    let s = c .before .before .before in
-    (omega arith, slots-older (s .args .m) (copied (s .args .m) (s .args .t .now)) (s .args .work .now) (s .args .made) (s .pre .4 .0) (s .pre .4 .1), s .pre .4 .1 .tournament)
+next-slot-requires c κs = omega arith
 
 enum-known-n : tie.Need-enum-known-n
 enum-known-n c = search needs
@@ -32,8 +28,8 @@ returns c =
     let s = c .before .before .before .before .before .before in
     let a = s .args in
     λ rest h. (
-      nothing-left (a .m) (copied (a .m) (a .t .now)) (a .work .now) (a .made) rest h (s .pre .0)
-          (subst (ChosenOf (a .m) (a .work .now) (a .made) (slotsAt (a .m) (a .work .now) (a .made))) (c .enum-told .given .1) (n .ensures)),
+      nothing-left (a .m) (copied (a .m) (a .t .now)) (a .work .now) (a .made) rest (s .pre .0) h
+          (subst (FirstSlot (a .m) (a .work .now) (a .made)) (c .enum-told .given .1) (n .ensures)),
       refl,
     )
 
@@ -43,7 +39,7 @@ next-root-requires c κs =
     let s = c .before .before .before .before .before .before .before .before in
     let a = s .args in (
       (s .pre .0, omega arith, s .pre .1, omega arith),
-      (subst (ChosenOf (a .m) (a .work .now) (a .made) (slotsAt (a .m) (a .work .now) (a .made))) (c .before .before .n .given .1) (n .ensures), (s .pre .4 .0, s .pre .4 .1)),
+      (subst (FirstSlot (a .m) (a .work .now) (a .made)) (c .before .before .n .given .1) (n .ensures), (s .pre .4 .0, s .pre .4 .1)),
     )
 
 put-list-requires : tie.Need-put-list-requires

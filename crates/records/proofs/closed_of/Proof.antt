@@ -36,7 +36,7 @@ bytes-of-requires c κs = search needs
 returns : tie.Need-returns
 returns c =
     let args = c .before .before .before .args in
-    c .bytes-of .ensures ∙ ap bytes (lent-whole (now (args .work)) (args .n) 9 (512 * args .n + 441) (512 * args .n + 453) (omega arith) (omega arith) (omega arith) (omega arith))
+    c .bytes-of .ensures ∙ ap bytes (lent-whole (now (args .work)) (args .n) 8 (512 * args .n + 440) (512 * args .n + 452) (omega arith) (omega arith) (omega arith) (omega arith))
 
 pub closed-of-spec : {M : Type 1} → statement M
 closed-of-spec =

@@ -44,36 +44,23 @@ word-requires c κs = search needs
 slice-write-rec : tie.Need-slice-write-rec
 slice-write-rec c = search needs
 
-word-requires-2 : tie.Need-word-requires-2
-word-requires-2 c κs = search needs
-
-slice-write-rec-2 : tie.Need-slice-write-rec-2
-slice-write-rec-2 c =
-    let clear = c .before .before .before .before .before .before .before .before .before .before .before .before .clear in
-    let tasks = c .before .before .before .before .before .before .before .before .copy-bytes in
-    let closed = c .before .before .before .before .copy-bytes2 in
-    let rec : List ℕ = put 6 (18 - 6) (tasks .last .0) (clear .last .0) in
-    let long : length rec ≡ length (clear .last .0) = lent-length 6 18 (tasks .last .0) (clear .last .0) (omega arith) (omega (arith, clear .kept .0)) (tasks .kept .0) in
-    let all : length (put 441 (453 - 441) (closed .last .0) rec) ≡ length rec = lent-length 441 453 (closed .last .0) rec (omega arith) (omega (arith, clear .kept .0)) (closed .kept .0) in
-    rw (length-set) (omega (arith, clear .kept .0))
-
 same-length : tie.Need-same-length
 same-length c =
-    let clear = c .before .before .before .before .before .before .before .before .before .before .before .before .clear in
-    let tasks = c .before .before .before .before .before .before .before .before .copy-bytes in
-    let closed = c .before .before .before .before .copy-bytes2 in
+    let clear = c .before .before .before .before .before .before .before .before .before .before .before .clear in
+    let tasks = c .before .before .before .before .before .before .before .copy-bytes in
+    let closed = c .before .before .before .copy-bytes2 in
     let rec : List ℕ = put 6 (18 - 6) (tasks .last .0) (clear .last .0) in
     let long : length rec ≡ length (clear .last .0) = lent-length 6 18 (tasks .last .0) (clear .last .0) (omega arith) (omega (arith, clear .kept .0)) (tasks .kept .0) in
-    let all : length (put 441 (453 - 441) (closed .last .0) rec) ≡ length rec = lent-length 441 453 (closed .last .0) rec (omega arith) (omega (arith, clear .kept .0)) (closed .kept .0) in
-    rw (length-set, length-set) (all ∙ long ∙ clear .kept .0)
+    let all : length (put 440 (452 - 440) (closed .last .0) rec) ≡ length rec = lent-length 440 452 (closed .last .0) rec (omega arith) (omega (arith, clear .kept .0)) (closed .kept .0) in
+    rw (length-set) (all ∙ long ∙ clear .kept .0)
 
 returns : tie.Need-returns
 returns c =
-    let args = c .before .before .before .before .before .before .before .before .before .before .before .before .before .before .before .before .before .args in
-    let pre = c .before .before .before .before .before .before .before .before .before .before .before .before .before .before .before .before .before .pre in
-    let clear = c .before .before .before .before .before .before .before .before .before .before .before .before .clear in
-    root-record (clear .last .0) _ _ (now (args .tasks)) (now (args .closed)) (args .row) (args .older) _ _ (clear .ensures ∙ ap (λ (n : ℕ). replicate n 0) (pre .0))
-    (c .before .before .before .before .before .before .before .before .copy-bytes .ensures) (c .before .before .before .before .copy-bytes2 .ensures) (pre .1) (pre .2) (pre .3) (pre .4) (c .before .word .ensures) (c .word2 .ensures)
+    let args = c .before .before .before .before .before .before .before .before .before .before .before .before .before .before .before .before .args in
+    let pre = c .before .before .before .before .before .before .before .before .before .before .before .before .before .before .before .before .pre in
+    let clear = c .before .before .before .before .before .before .before .before .before .before .before .clear in
+    root-record (clear .last .0) _ _ (now (args .tasks)) (now (args .closed)) (args .row) _ (clear .ensures ∙ ap (λ (n : ℕ). replicate n 0) (pre .0))
+    (c .before .before .before .before .before .before .before .copy-bytes .ensures) (c .before .before .before .copy-bytes2 .ensures) (pre .1) (pre .2) (pre .3) (c .word .ensures)
 
 pub root-record-spec : {M : Type 1} → statement M
 root-record-spec =
@@ -90,7 +77,5 @@ root-record-spec =
     copy-bytes-requires-2
     word-requires
     slice-write-rec
-    word-requires-2
-    slice-write-rec-2
     same-length
     returns)

@@ -26,7 +26,6 @@ make-root-requires c κs =
       pre .1,
       omega arith,
       omega arith,
-      omega arith,
       subst (λ (l : List ℕ). PartKept (a .m) l noneClosed) (sym (first .2))
           (list-kept (a .m) (first .0) noneClosed (pre .1) (least-assignment-meant (a .m) (copied (a .m) (now (a .t))) (first .0) (first .1) .0 .0) (λ i. omega (arith, none-closed i))),
     )
@@ -45,9 +44,9 @@ returns c =
     let table = copied (a .m) (now (a .t)) in
     let make = c .before .before .before .before .before .before .make-root in
     let enter = c .before .before .enter in (
-      made-begun (a .m) table (now (a .work)) _ _ 0 (a .tasks) 0 noneClosed 0 (make .ensures) (enter .ensures .same),
-      subst (λ (l : List ℕ). RootMade (a .m) table (now (a .work)) (make .last .0) 0 l 0 noneClosed 0 → NextTaken (a .m) table (enter .last .0) 1 (assignmentsInOrder (a .m) table) l) (sym (first .2))
-          (λ u. first-made (a .m) table (now (a .work)) (make .last .0) (enter .last .0) (first .0) (pre .0) (pre .1) (first .1) (first-entered (a .m) table (now (a .work)) (make .last .0) (enter .last .0) _ noneClosed u (enter .ensures)) u)
+      made-begun (a .m) table (now (a .work)) _ _ 0 (a .tasks) 0 noneClosed (make .ensures) (enter .ensures .same),
+      subst (λ (l : List ℕ). RootMade (a .m) table (now (a .work)) (make .last .0) 0 l 0 noneClosed → NextTaken (a .m) table (enter .last .0) 1 (assignmentsInOrder (a .m) table) l) (sym (first .2))
+          (λ u. first-made (a .m) table (now (a .work)) (make .last .0) (enter .last .0) (first .0) (pre .0) (pre .1) (first .1) (first-entered (a .m) table (make .last .0) (enter .last .0) (enter .ensures)) u)
           (make .ensures),
     )
 

@@ -15,7 +15,7 @@ take-slot-requires c κs =
     let a = c .before .before .args in
     let w = now (a .work) in
     let table = copied (a .m) (now (a .t)) in
-    let inside = chosen-inside (a .m) table w (a .latest) (a .n) (a .j) (pre .1 .1 .0) (pre .0 .0) (pre .1 .1 .1 .parts) (pre .1 .0) in
+    let inside = chosen-inside (a .m) table w (a .latest) (a .n) (a .j) (pre .1 .1 .0) (pre .0 .0) (pre .1 .1 .1) (pre .1 .0) in
     (omega (arith, inside .0), inside .1, inside .2)
 
 make-root-requires : tie.Need-make-root-requires
@@ -27,9 +27,8 @@ make-root-requires c κs =
     let take = c .before .before .before .before .take-slot in (
       pre .0 .0,
       omega (arith, take .kept .0),
-      omega (arith, handed-row (a .m) table w _ (a .latest) (a .made) (a .n) (a .j) (pre .1 .1 .0) (pre .0 .0) (omega arith) (pre .0 .1) (pre .1 .1 .1 .parts) (pre .1 .0) (take .ensures .1) _ (take .ensures .0)),
-      omega arith,
-      handed-kept (a .m) table w _ (a .latest) (a .made) (a .n) (a .j) (pre .1 .1 .0) (pre .0 .0) (omega arith) (pre .0 .1) (pre .1 .1 .1 .parts) (pre .1 .0) (take .ensures .1) _ (take .ensures .0),
+      omega (arith, handed-row (a .m) table w _ (a .latest) (a .made) (a .n) (a .j) (pre .1 .1 .0) (pre .0 .0) (omega arith) (pre .0 .1) (pre .1 .1 .1) (pre .1 .0) (take .ensures .1) _ (take .ensures .0)),
+      handed-kept (a .m) table w _ (a .latest) (a .made) (a .n) (a .j) (pre .1 .1 .0) (pre .0 .0) (omega arith) (pre .0 .1) (pre .1 .1 .1) (pre .1 .0) (take .ensures .1) _ (take .ensures .0),
     )
 
 enter-requires : tie.Need-enter-requires
@@ -40,7 +39,7 @@ enter-requires c κs =
     let table = copied (a .m) (now (a .t)) in
     let take = c .before .before .before .before .before .before .before .before .take-slot in
     let make = c .before .before .before .make-root in
-    let inside = chosen-inside (a .m) table w (a .latest) (a .n) (a .j) (pre .1 .1 .0) (pre .0 .0) (pre .1 .1 .1 .parts) (pre .1 .0) in (
+    let inside = chosen-inside (a .m) table w (a .latest) (a .n) (a .j) (pre .1 .1 .0) (pre .0 .0) (pre .1 .1 .1) (pre .1 .0) in (
       pre .0 .0,
       pre .0 .1,
       pre .0 .2,
@@ -61,9 +60,9 @@ returns c =
     let take = c .before .before .before .before .before .before .before .before .before .before .before .take-slot in
     let make = c .before .before .before .before .before .before .make-root in
     let enter = c .before .before .enter in
-    let inside = chosen-inside (a .m) table w (a .latest) (a .n) (a .j) (pre .1 .1 .0) (pre .0 .0) (pre .1 .1 .1 .parts) (pre .1 .0) in (
-      next-begun (a .m) table _ _ _ (a .made) _ _ _ (a .latest) (make .ensures) (enter .ensures .same) w (a .n) (a .j) (omega (arith, inside .0)) (take .ensures .1),
-      λ rest H. next-handed (a .m) table w _ (a .latest) (a .made) (a .n) (a .j) rest (pre .0 .0) (omega arith) (pre .0 .1) (H .parts) (pre .1 .0) (take .ensures .1) _ (take .ensures .0) _ _
+    let inside = chosen-inside (a .m) table w (a .latest) (a .n) (a .j) (pre .1 .1 .0) (pre .0 .0) (pre .1 .1 .1) (pre .1 .0) in (
+      next-begun (a .m) table _ _ _ (a .made) _ _ _ (make .ensures) (enter .ensures .same) w (a .n) (a .j) (omega (arith, inside .0)) (take .ensures .1),
+      λ rest H. next-handed (a .m) table w _ (a .latest) (a .made) (a .n) (a .j) rest (pre .0 .0) (omega arith) (pre .0 .1) H (pre .1 .0) (take .ensures .1) _ (take .ensures .0) _ _
           (next-entered (a .m) table w _ (a .latest) (a .made) (a .n) (a .j) rest (pre .0 .0) (omega arith) (pre .0 .1) H (pre .1 .0) (take .ensures .1) _ _ _ _ (make .ensures) _ (enter .ensures)) (make .ensures),
     )
 

@@ -14,9 +14,8 @@ win-of-requires c κs = search needs
 returns : tie.Need-returns
 returns c =
     let a = c .before .before .args in
-    let pre = c .before .before .pre in
     let w = now (a .work) in
-    subst (ChosenOf (a .m) w (a .latest) (slotsAt (a .m) w (a .latest))) (sym (c .win-of .ensures)) (winner-right (a .m) w (a .latest) (pre .1) (pre .2))
+    λ table rest H. subst (ChosenOf (a .m) w (H .roots) (slotsAt (a .m) w (H .roots))) (sym (c .win-of .ensures)) (winner-right (a .m) w (H .roots) (a .latest) (H .low) (H .tournament))
 
 pub next-slot-spec : {M : Type 1} → statement M
 next-slot-spec = tie.close (tie.spec win-of-requires returns)
