@@ -1,19 +1,20 @@
 -- What is listed so far, and what the loop comes to. Assumes nothing.
-use Prim.Native.Nat.{ℕ, zero, suc, _+_, _*_, _-_, _/_, _≤_, _<_, min}
+use Prim.Native.Nat.{ℕ, zero, suc, _+_, _*_, _-_, _≤_}
 use mathlib.Core.Path.{_≡_, refl, sym, ap, subst, _∙_}
 use mathlib.Core.Logic.{_≢_}
-use mathlib.Core.Bool.{Bool, true, false}
-use mathlib.Core.List.{List, [], _∷_, _++_, map, append-assoc, append-nil}
+use mathlib.Core.Bool.{Bool}
+use mathlib.Core.List.{List, [], _∷_, _++_, append-assoc, append-nil}
 use mathlib.Core.Option.{Option, none, some}
 use native.Mathlib.Numerals.{add-one}
 use native.Mathlib.Omega.{arith}
-use lib.ListN.{length, take, drop, length-append, length-replicate, replicate, take-append-drop}
+use lib.ListN.{length, take, drop, length-append, take-append-drop}
 use lib.Seq.{take-at, drop-at, drop-drop, take-all}
-use Rattle.deck.specs.Lists.{flat, headOf}
+use Rattle.deck.specs.Lists.{headOf}
 use Rattle.deck.specs.Assignments.{assignmentsInOrder, leastAssignment}
 use Rattle.deck.specs.Calls.{taskList, overwrite, assignmentCause}
 use Rattle.records.specs.Cut.{part, put}
 use Rattle.roots.specs.Tournament.{SlotsHold, NextTaken}
+use Rattle.roots.proofs.Filling.{list-long}
 use Rattle.in_order.specs.declared.Count.{Count}
 use Rattle.in_order.specs.Listed.{listsOf, roomFor, listedFor, Remaining, Taken, Listing, InOrderCall}
 
@@ -21,9 +22,6 @@ use Rattle.in_order.specs.Listed.{listsOf, roomFor, listedFor, Remaining
 lists-snoc : (l : List (List ℕ)) (a : List ℕ) → listsOf (l ++ (a ∷ [])) ≡ listsOf l ++ taskList a
 lists-snoc [] a = append-nil (taskList a)
 lists-snoc (b ∷ l) a = ap (λ (x : List ℕ). taskList b ++ x) (lists-snoc l a) ∙ sym (append-assoc (taskList b) (listsOf l) (taskList a))
-
-task-list-long : (a : List ℕ) → length a ≤ 12 → length (taskList a) ≡ 12
-task-list-long a h = length-append a (replicate (12 - length a) 255) ∙ rw (length-replicate {A = ℕ} (12 - length a) 255) (omega arith)
 
 -- the assignments that come first, listed; the others remain
 pub record Progress (m : ℕ) (table work : List ℕ) (made : ℕ) (lists lists′ : List ℕ) : Type 0 where
@@ -61,7 +59,7 @@ module _ (m : ℕ) (small : m ≤ 12) (table work : List ℕ) (made : ℕ) (list
   }
     where
       twelve : length (taskList (N .next)) ≡ 12
-      twelve = task-list-long (N .next) (omega (arith, N .unbarred .0 .as-many))
+      twelve = list-long (N .next) (omega (arith, N .unbarred .0 .as-many))
 
       longer : length (listsOf (P .done ++ (N .next ∷ []))) ≡ 12 * made + 12
       longer = ap length (lists-snoc (P .done) (N .next)) ∙ omega (arith, length-append (listsOf (P .done)) (taskList (N .next)), P .long, twelve)

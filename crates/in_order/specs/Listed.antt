@@ -1,5 +1,5 @@
 -- The call that lists the assignments in order, and what its steps leave. Assumes nothing.
-use Prim.Native.Nat.{ℕ, zero, suc, _+_, _*_, _/_, _≤_, min}
+use Prim.Native.Nat.{ℕ, zero, suc, _+_, _/_, _≤_, min}
 use mathlib.Core.Path.{_≡_}
 use mathlib.Core.Logic.{_≢_}
 use mathlib.Core.Bool.{Bool, true, false}

@@ -5,7 +5,6 @@ ghost use mathlib.Core.Path.{_≡_};
 ghost use mathlib.Core.List.{List};
 ghost use Prim.Native.Nat.{ℕ, _+_, _*_, _<_, _≤_, min};
 ghost use lib.ListN.{length};
-ghost use Rattle.deck.specs.Calls.{assignmentCause};
 ghost use Rattle.deck.specs.Assignments.{assignmentsInOrder};
 ghost use Rattle.prices.specs.Square.{copied};
 ghost use Rattle.roots.specs.Tournament.{SlotsHold};

@@ -1,14 +1,13 @@
 // The records of the search's nodes in the lent workspace: record n at words 512 n to 512 n + 511, and past all `limit` records
 // a key for each node. Every field is read and written here and nowhere else.
 ghost use mathlib.Core.Path.{_≡_};
-ghost use mathlib.Core.List.{List, [], _∷_, _++_};
-ghost use Prim.Native.Nat.{ℕ, _+_, _*_, _<_, _≤_, _%_};
-ghost use lib.ListN.{length, getD, set, take, drop, replicate};
+ghost use mathlib.Core.List.{[], _∷_};
+ghost use Prim.Native.Nat.{_+_, _*_, _<_, _≤_, _%_};
+ghost use lib.ListN.{length, getD, set, replicate};
 ghost use lib.Dec.{eqb};
 ghost use Rattle.deck.specs.Lists.{sum};
 ghost use Rattle.deck.specs.Sheet.{task};
 ghost use Rattle.pack.specs.Pack.{packOf};
-ghost use Rattle.records.specs.Cut.{part, put};
 ghost use Rattle.records.specs.Record.{fields, fieldsAt, linkIn, rootIn, constraintIn, ownIn, headIn, tasksIn, finishesIn, rowIn, closedIn, slotIn, flagIn, sumIn, slotTasksIn, tournamentIn, bytes, wordsOf, Small, withPath, withSlot, rootFields, closedKey, withKey, Wrote};
 use deck::Carrier;
 use deck::Constraint;

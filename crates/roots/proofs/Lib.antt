@@ -2,7 +2,7 @@ pub mod Choosing
 pub mod Chosen
 pub mod Codes
 pub mod Playing
-pub mod Climbing
+pub mod Replaying
 pub mod Winner
 pub mod Parts
 pub mod Filling

@@ -72,6 +72,7 @@ abbrev pub Of : ℕ → Choice → Type 0
 Of k Nothing = Unit {0}
 Of k (Chosen n j) = (n ≡ k) × (j < 12)
 
+-- each choice is of a slot of a number below latest, and each own choice of one of its number
 pub record Named (work : List ℕ) (latest : ℕ) : Type 0 where
   pub wins : (k : ℕ) → k < latest → Below latest (winAt work k)
   pub owns : (k : ℕ) → k < latest → Of k (ownAt work k)
@@ -107,7 +108,7 @@ pub record WordPut (before after : List ℕ) (k : ℕ) (win own : Choice) : Type
   pub owns : (i : ℕ) → i ≢ k → ownAt after i ≡ ownAt before i
 
 -- the tournament is played again; each number's own choice is as it was
-pub record Climbed (before after : List ℕ) (latest : ℕ) : Type 0 where
+pub record Replayed (before after : List ℕ) (latest : ℕ) : Type 0 where
   pub same : OnlyTournament before after latest
   pub own : (k : ℕ) → ownAt after k ≡ ownAt before k
   pub played : Played after latest

@@ -1,5 +1,6 @@
 // The assignments that remain, in the records of the roots: Murty's parts, each in a slot of the root that it was split from, with
-// its first assignment. The next assignment in order is the first of these.
+// its first assignment. The next assignment in order is the first of these; a tournament tree over the numbers of the nodes says
+// which slot has it.
 use assignment::order;
 use assignment::order::Candidate;
 ghost use mathlib.Core.Path.{_≡_};
@@ -15,7 +16,7 @@ ghost use Rattle.prices.specs.Square.{copied};
 ghost use Rattle.records.specs.Record.{fieldsAt, tasksIn, rowIn, closedIn, slotIn, slotTasksIn, bytes, withSlot, Wrote};
 ghost use Rattle.roots.specs.Slots.{PartKept, Filled, RootMade};
 ghost use Rattle.roots.specs.Choices.{slotBefore, firstOf, betterOf, overSlots, Inside, partOf, Cleared, slotWords};
-ghost use Rattle.roots.specs.Tournament.{codeOf, choiceOf, slotCode, winBelow, ownAt, firstChoice, firstHere, Below, Of, Named, PlayedBut, Played, WordPut, Climbed, Refreshed, Emptied, Entered, SlotsHold, FirstSlot, NextTaken};
+ghost use Rattle.roots.specs.Tournament.{codeOf, choiceOf, slotCode, winBelow, ownAt, firstChoice, firstHere, Below, Of, Named, PlayedBut, Played, WordPut, Replayed, Refreshed, Emptied, Entered, SlotsHold, FirstSlot, NextTaken};
 ghost use Rattle.roots.specs.Begun.{RootBegun};
 
 // The slot to take next.
@@ -108,7 +109,7 @@ fn best_in(work: &[u32], m: usize, n: usize, b: Choice) -> Choice
     best
 }
 
-// THE TOURNAMENT
+// THE TOURNAMENT: under number k are 2 k + 1 and 2 k + 2, and a number's word has the first of its own slots and of those under it.
 
 // A choice as a number.
 fn code_of(b: Choice) -> usize
@@ -211,9 +212,9 @@ fn settle(work: &mut [u32], latest: usize, k: usize)
 }
 
 // Plays the tournament again from number n up.
-fn climb(work: &mut [u32], latest: usize, n: usize)
+fn replay(work: &mut [u32], latest: usize, n: usize)
     requires { ⌜ (512 * latest ≤ length (now work)) × (n < latest) × (latest ≤ 4097) × PlayedBut (now work) latest n ⌝ }
-    ensures { λ _. ⌜ Climbed (now (work .entry)) (now (work .exit)) latest ⌝ }
+    ensures { λ _. ⌜ Replayed (now (work .entry)) (now (work .exit)) latest ⌝ }
 {
     let mut at = n;
     while at != 0 {
@@ -231,7 +232,7 @@ fn refresh(work: &mut [u32], m: usize, latest: usize, n: usize)
     let own = best_in(work, m, n, Choice::Nothing);
     let win = win_of(work, latest, n);
     put_word(work, n, win, own);
-    climb(work, latest, n);
+    replay(work, latest, n);
 }
 
 // The numbers from `from` to `to` have no choice.
@@ -244,7 +245,8 @@ fn empty(work: &mut [u32], from: usize, to: usize)
     }
 }
 
-// Root `made` enters the tournament of the numbers below `latest`. Slots of root n were taken.
+// Root `made` enters the tournament of the numbers below `latest`, of which a slot of root n was taken. The numbers between are of
+// children, whose words are copies.
 fn enter(work: &mut [u32], m: usize, latest: usize, made: usize, n: usize)
     requires { ⌜ (m ≤ 12) × (latest ≤ made) × (made ≤ 4096) × (n ≤ made) × (512 * made + 512 ≤ length (now work)) × Played (now work) latest ⌝ }
     ensures { λ _. ⌜ Entered m (now (work .entry)) (now (work .exit)) latest made n ⌝ }

@@ -1,6 +1,6 @@
 -- `in_order::room` meets its contract. Assumes nothing.
 use borrow.Author.Needs.{needs}
-use mathlib.Core.Path.{refl, _∙_}
+use mathlib.Core.Path.{_∙_}
 use native.Mathlib.Omega.{arith}
 use Rattle.in_order.specs.Listed.{roomFor}
 use Rattle.in_order.proofs.room.Statement.{statement}

@@ -5,7 +5,7 @@ use Prim.Native.Nat.{_-_, _≤_}
 use lib.ListN.{length}
 use denote.Ref.{now}
 use Rattle.roots.specs.Tournament.{Emptied}
-use Rattle.roots.proofs.Climbing.{empty-none, empty-more}
+use Rattle.roots.proofs.Replaying.{empty-none, empty-more}
 use Rattle.roots.proofs.empty.Statement.{statement}
 use Rattle.roots.proofs.empty.Tie as tie
 

@@ -1,7 +1,7 @@
 -- `enter` meets its contract. Assumes nothing.
 use native.Mathlib.Omega.{arith}
 use denote.Ref.{now}
-use Rattle.roots.proofs.Climbing.{played-emptied, root-entered}
+use Rattle.roots.proofs.Replaying.{played-emptied, root-entered}
 use borrow.Author.Needs.{needs}
 use Rattle.roots.proofs.enter.Statement.{statement}
 use Rattle.roots.proofs.enter.Tie as tie

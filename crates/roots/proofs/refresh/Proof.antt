@@ -5,7 +5,7 @@ use lib.ListN.{length}
 use denote.Ref.{now}
 use Rattle.roots.specs.Tournament.{Below}
 use Rattle.roots.proofs.Playing.{below-win, below-wider, best-is, best-of}
-use Rattle.roots.proofs.Climbing.{found-but, found-again}
+use Rattle.roots.proofs.Replaying.{found-but, found-again}
 use borrow.Author.Needs.{needs}
 use Rattle.roots.proofs.refresh.Statement.{statement}
 use Rattle.roots.proofs.refresh.Tie as tie
@@ -28,8 +28,8 @@ put-word-requires c κs =
       best-of w (a .n) (a .m) (length w) (c .before .before .before .best-in .result) own (c .before .before .before .best-in .ensures .1),
     )
 
-climb-requires : tie.Need-climb-requires
-climb-requires c κs =
+replay-requires : tie.Need-replay-requires
+replay-requires c κs =
     let a = c .before .before .before .before .before .before .before .before .before .before .args in
     let pre = c .before .before .before .before .before .before .before .before .before .before .pre in
     let w = now (a .work) in
@@ -49,7 +49,7 @@ returns c =
     let pre = c .before .before .before .before .before .before .before .before .before .before .before .before .before .pre in
     let w = now (a .work) in
     let own = best-is w (a .n) (a .m) (c .before .before .before .before .before .before .before .before .before .before .best-in .result) (c .before .before .before .before .before .before .before .before .before .before .best-in .ensures .0) in
-    found-again (a .m) w _ (a .latest) (a .n) (pre .2) (c .before .before .before .before .before .before .before .before .win-of .result) (c .before .before .before .before .before .before .before .before .before .before .best-in .result) (c .before .before .before .before .before .before .before .before .win-of .ensures) (pre .4) (best-of w (a .n) (a .m) (length w) (c .before .before .before .before .before .before .before .before .before .before .best-in .result) own (c .before .before .before .before .before .before .before .before .before .before .best-in .ensures .1)) (c .before .before .before .before .before .before .put-word .ensures) _ own (c .before .before .climb .ensures)
+    found-again (a .m) w _ (a .latest) (a .n) (pre .2) (c .before .before .before .before .before .before .before .before .win-of .result) (c .before .before .before .before .before .before .before .before .before .before .best-in .result) (c .before .before .before .before .before .before .before .before .win-of .ensures) (pre .4) (best-of w (a .n) (a .m) (length w) (c .before .before .before .before .before .before .before .before .before .before .best-in .result) own (c .before .before .before .before .before .before .before .before .before .before .best-in .ensures .1)) (c .before .before .before .before .before .before .put-word .ensures) _ own (c .before .before .replay .ensures)
 
 pub refresh-spec : {M : Type 1} → statement M
 refresh-spec =
@@ -58,6 +58,6 @@ refresh-spec =
     best-in-requires
     win-of-requires
     put-word-requires
-    climb-requires
+    replay-requires
     same-length
     returns)

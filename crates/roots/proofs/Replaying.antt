@@ -6,7 +6,7 @@ use mathlib.Core.List.{List}
 use native.Mathlib.Omega.{arith}
 use native.Mathlib.Decide.{ℕ-discrete}
 use Rattle.prices.proofs.Growth.{lower}
-use Rattle.roots.specs.Tournament.{winAt, ownAt, winBelow, firstHere, bestOwn, Below, Of, Named, PlayedBut, Played, OnlyTournament, WordPut, Climbed, Refreshed, Emptied, Entered}
+use Rattle.roots.specs.Tournament.{winAt, ownAt, winBelow, firstHere, bestOwn, Below, Of, Named, PlayedBut, Played, OnlyTournament, WordPut, Replayed, Refreshed, Emptied, Entered}
 use Rattle.roots.specs.declared.Choice.{Choice}
 use Rattle.roots.specs.declared.Choice.the-variants.{Nothing}
 use Rattle.roots.proofs.Codes.{below-yes, below-no}
@@ -63,18 +63,18 @@ module _ (before after : List ℕ) (latest k : ℕ) (l : k < latest) (u : WordPu
   settled-same = put-same before after latest k l (firstHere before latest k) (ownAt before k) N u
 
 -- FROM A NUMBER UP
-pub record Climbing (before work : List ℕ) (latest at : ℕ) : Type 0 where
+pub record Replaying (before work : List ℕ) (latest at : ℕ) : Type 0 where
   pub same : OnlyTournament before work latest
   pub own : (k : ℕ) → ownAt work k ≡ ownAt before k
   pub played : PlayedBut work latest at
   pub low : at < latest
 
-pub climb-none : (work : List ℕ) (latest n : ℕ) → n < latest → PlayedBut work latest n → Climbing work work latest n
-climb-none work latest n l p = record { same = only-none work latest; own = λ k. refl; played = p; low = l }
+pub replay-none : (work : List ℕ) (latest n : ℕ) → n < latest → PlayedBut work latest n → Replaying work work latest n
+replay-none work latest n l p = record { same = only-none work latest; own = λ k. refl; played = p; low = l }
 
-module _ (before work after : List ℕ) (latest at : ℕ) (C : Climbing before work latest at) (u : WordPut work after at (firstHere work latest at) (ownAt work at)) where
-  pub climb-more : at ≢ 0 → Climbing before after latest ((at - 1) / 2)
-  climb-more ne =
+module _ (before work after : List ℕ) (latest at : ℕ) (C : Replaying before work latest at) (u : WordPut work after at (firstHere work latest at) (ownAt work at)) where
+  pub replay-more : at ≢ 0 → Replaying before after latest ((at - 1) / 2)
+  replay-more ne =
       record {
         same = only-then before work after latest (C .same) (settled-same work after latest at (C .low) u (C .played));
         own = λ k. settled-own work after latest at (C .low) u (C .played) k ∙ C .own k;
@@ -86,8 +86,8 @@ module _ (before work after : List ℕ) (latest at : ℕ) (C : Climbing before w
         low = omega (arith, C .low);
       }
 
-  pub climb-all : at ≡ 0 → Climbed before after latest
-  climb-all z =
+  pub replay-all : at ≡ 0 → Replayed before after latest
+  replay-all z =
       record {
         same = only-then before work after latest (C .same) (settled-same work after latest at (C .low) u (C .played));
         own = λ k. settled-own work after latest at (C .low) u (C .played) k ∙ C .own k;
@@ -117,7 +117,7 @@ module _ (m : ℕ) (before mid : List ℕ) (latest n : ℕ) (l : n < latest) (wi
           go (yes e) = rw e (below-yes mid n latest l ∙ u .win-here ∙ w)
           go (no e) = put-below before mid latest n l win own (P .named) u i e
 
-  pub found-again : (after : List ℕ) → own ≡ bestOwn m before n → Climbed mid after latest → Refreshed m before after latest n
+  pub found-again : (after : List ℕ) → own ≡ bestOwn m before n → Replayed mid after latest → Refreshed m before after latest n
   found-again after e c =
       record {
         same = only-then before mid after latest (put-same before mid latest n l win own (P .named) u) (c .same);
