@@ -2,7 +2,7 @@
 use Prim.Native.Nat.{ℕ, zero, suc, _+_, _/_, _≤_, _<_}
 use mathlib.Core.Path.{_≡_, refl, sym, ap₂, _∙_, subst}
 use mathlib.Core.Logic.{_≢_}
-use mathlib.Core.Bool.{Bool, true, false, cond, _&&_}
+use mathlib.Core.Bool.{Bool, true, false}
 use mathlib.Core.List.{List, List·Memᴰ as Mem}
 use native.Mathlib.Nat.{le-antisymm}
 use native.Mathlib.Omega.{arith}
@@ -97,9 +97,6 @@ module _ (rs : List ℕ) (i g k : ℕ) where
   stays : (z : ℕ) → recordWord rs k 0 ≡ z → {n : ℕ}
       → n ≡ stayAfter (carrier i) g (constraintOf z (carrier (recordWord rs k 1)) (recordWord rs k 2) (recordWord rs k 3) (recordWord rs k 4)) → Stays n
   stays z e {n} h = rw e h
-
-  none-if : (a b : Bool) (n : ℕ) → a ≡ false → 0 ≡ cond (a && b) n 0
-  none-if a b n e = rw e
 
   pub stay-other : recordWord rs k 1 ≢ i → Stays 0
   stay-other h = go (recordWord rs k 0) refl

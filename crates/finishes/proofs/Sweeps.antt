@@ -1,6 +1,6 @@
 -- The backward pass of one task without constraints: what its calls ask, its layers, and its column. Assumes nothing.
 use Prim.Native.Nat.{ℕ, suc, _+_, _-_, _≤_, _<_}
-use mathlib.Core.Path.{_≡_, refl, sym, ap, _∙_, subst}
+use mathlib.Core.Path.{_≡_, sym, ap, _∙_, subst}
 use mathlib.Core.Logic.{⊎-elim}
 use mathlib.Core.Bool.{true}
 use mathlib.Core.List.{List, [], reverse}
@@ -34,10 +34,6 @@ use Rattle.finishes.proofs.Marks.{marked-none, marked-more}
 no-records : (d : Sheet) → T (goodRecords d [])
 unfolding goodRecords
 no-records d = tt
-
-unconstrained : constraintsOf [] ≡ []
-unfolding constraintsOf
-unconstrained = refl
 
 zeros : (n q : ℕ) → getD {A = ℕ} (replicate n 0) q 0 ≡ 0
 zeros n q = ⊎-elim (λ h. getD-replicate {A = ℕ} n q 0 0 h)

@@ -81,9 +81,6 @@ module _ {s : List ℕ} {i : Carrier} {j : Task} {mask goals rs heads links tabl
   pub spot-of : (x r : ℕ) → r ≡ turnOf (l .w + 2) x → p + r - (l .w + 2) ≡ spot x
   spot-of x r e = rw (e, g .wide, o .padded) refl
 
-  pub spot-enough : (r : ℕ) → l .w + 2 ≤ p + r
-  spot-enough r = omega (arith, g .wide, o .padded)
-
   pub padded-small : p ≤ 1156
   padded-small =
       omega (arith, o .padded, pad-most d u inside, size-of (d .width) (d .height), size-small (d .width) (d .height) (wide-most (g .ready)) (high-most (g .ready)), wide-most (g .ready), high-most (g .ready))

@@ -135,9 +135,6 @@ module _ (m : ℕ) (w : List ℕ) (r : ℕ) (small : m ≤ 12) (low : r < m) (li
         at-labels : (f d : ℕ) → from′ at y ≡ f → near′ at y ≡ d → P f d → P (from′ at y) (near′ at y)
         at-labels f d p q g = subst (λ (z : ℕ). P z (near′ at y)) (sym p) (subst (P f) (sym q) g)
 
-        newly : P i (total + slackOf w u v i y) → P i (total + slackOf w u v i y)
-        newly g = g
-
         bound : (near at y < farthest) ⊎ (near at y ≡ farthest) → near at y ≤ farthest
         bound (inl g) = omega arith
         bound (inr g) = omega arith

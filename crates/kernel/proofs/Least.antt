@@ -18,7 +18,7 @@ use Rattle.deck.specs.declared.Carrier.{Carrier}
 use Rattle.deck.specs.declared.Task.{Task}
 use Rattle.deck.specs.declared.Constraint.{Constraint}
 use Rattle.deck.specs.declared.Constraint.the-variants.{Place, Move}
-use Rattle.meaning.specs.Meaning.{Free, PathUnder, LeastPath}
+use Rattle.meaning.specs.Meaning.{Free, PathUnder}
 use Rattle.meaning.proofs.Tests.{Says, says-eqb, says-and, is-true}
 use Rattle.meaning.proofs.Lists.{mem-map, map-mem}
 use Rattle.meaning.proofs.Paths.{free-meant}
@@ -230,24 +230,3 @@ module _ (d : Sheet) (i : Carrier) (j : Task) (cs : List Constraint) (start : T 
       go : (o : Option (List ℕ)) → leastPath d i j cs ≡ o → LeastMeant d i j cs o → {p : List ℕ} (f : ℕ) → PathUnder d i j cs p f → f ≤ n → b ≤ n
       go none e k f u a = absurd (k _ f u)
       go (some q) e k {p} f u a = ⊎-elim (λ z. omega (arith, h q e)) (λ z. omega (arith, h q e, z .0)) (k .first p f u)
-
--- under more constraints no path finishes earlier
-pub more-later : (d : Sheet) (i : Carrier) (j : Task) (cs ds : List Constraint) → startOf d i < area d → ((c : Constraint) → Mem c cs → Mem c ds)
-    → (p q : List ℕ) → leastPath d i j cs ≡ some p → leastPath d i j ds ≡ some q → finishOf d j p ≤ finishOf d j q
-more-later d i j cs ds start more p q a b =
-    let l : LeastPath d i j cs p (finishOf d j p) = subst (LeastMeant d i j cs) a (least-path-meant d i j cs start) in
-    let k : LeastPath d i j ds q (finishOf d j q) = subst (LeastMeant d i j ds) b (least-path-meant d i j ds start) in
-    let u : PathUnder d i j cs q (finishOf d j q) = record { path = k .under .path; keeps = λ c m. k .under .keeps c (more c m) } in
-    ⊎-elim (λ z. omega arith) (λ z. omega (arith, z .0)) (l .first q (finishOf d j q) u)
-
--- and where there is none under fewer, there is none
-pub more-none : (d : Sheet) (i : Carrier) (j : Task) (cs ds : List Constraint) → startOf d i < area d → ((c : Constraint) → Mem c cs → Mem c ds)
-    → leastPath d i j cs ≡ none → leastPath d i j ds ≡ none
-more-none d i j cs ds start more a = go (leastPath d i j ds) (least-path-meant d i j ds start)
-  where
-    none-of : (p : List ℕ) (t : ℕ) → ¬ PathUnder d i j cs p t
-    none-of = subst (LeastMeant d i j cs) a (least-path-meant d i j cs start)
-
-    go : (o : Option (List ℕ)) → LeastMeant d i j ds o → o ≡ none
-    go none m = refl
-    go (some q) l = absurd (none-of q (finishOf d j q) (record { path = l .under .path; keeps = λ c m. l .under .keeps c (more c m) }))

@@ -2,7 +2,7 @@
 use mathlib.Core.Path.{_≡_, refl, sym, _∙_, ap, ap₂, subst}
 use mathlib.Core.Bool.{Bool, true, false}
 use mathlib.Core.List.{List, [], _∷_, List·Memᴰ as Mem}
-use mathlib.Core.Option.{none, some}
+use mathlib.Core.Option.{some}
 use Prim.Native.Nat.{ℕ, _+_, _*_, _-_, _<_, _≤_, _%_}
 use native.Mathlib.Nat.{zero-add}
 use native.Mathlib.Numerals.{add-one}
@@ -22,7 +22,7 @@ use Rattle.deck.specs.declared.Constraint.{Constraint}
 use Rattle.deck.specs.declared.Constraint.the-variants.{Place, Move}
 use Rattle.pack.specs.Pack.{packOf}
 use Rattle.pack.proofs.Trips.{length-pack}
-use Rattle.records.specs.Record.{fields, fieldsAt, linkIn, rootIn, ownIn, tasksIn, finishesIn, wordsOf, Small, withPath, childFields, rootFields, withKey, Wrote}
+use Rattle.records.specs.Record.{fields, fieldsAt, linkIn, rootIn, ownIn, tasksIn, finishesIn, wordsOf, Small, withPath, childFields, withKey, Wrote}
 use Rattle.records.proofs.Frames.{length-field, wrote-then}
 use Rattle.records.proofs.Words.{held-again}
 use Rattle.nodes.specs.Nodes.{upward, constraintsAt, pathOf, pathsOf, assignmentOf, costOf, nodeOf, nodeAt}
@@ -170,29 +170,6 @@ module _ (d : Sheet) where
         finishes = λ k h. rw e (r .finishes k h);
         zeros = λ k h. rw e (r .zeros k h);
       }
-
-  -- no path is written
-  pub root-begun : (before after : List ℕ) (n : ℕ) (a : List ℕ) (row : ℕ) (closed : List ℕ) → length a ≡ d .count → ((k : ℕ) → getD a k 0 < 256) → Wrote before after n (rootFields (taskList a) row closed)
-      → RootSoFar d after n a 0
-  unfolding rootFields
-  root-begun before after n a row closed l b u =
-      record {
-        link = rw (u .here);
-        own = rw (u .here) (omega arith);
-        tasks = rw (u .here);
-        long = l;
-        bytes = b;
-        least = λ k h. absurd (omega arith);
-        finishes = λ k h. absurd (omega arith);
-        zeros = λ k h. rw (u .here) (zero-at (ltb k 12) k refl);
-      }
-    where
-      none : List ℕ
-      none = replicate 12 0
-
-      zero-at : (x : Bool) (k : ℕ) → ltb k 12 ≡ x → getD none k 0 ≡ 0
-      zero-at true k e = getD-replicate 12 k 0 0 (ltb-true k 12 e)
-      zero-at false k e = List·getD-eq-default none 0 {n = k} (ltb-false k 12 e)
 
   module _ (before after : List ℕ) (n : ℕ) (a : List ℕ) (i t : ℕ) (p : List ℕ) (f : Fits d) (h : 512 * n + 512 ≤ length before) (b : i < d .count)
       (u : Wrote before after n (withPath (fieldsAt before n) i t (packOf (d .width) (d .horizon) p)))

@@ -9,8 +9,8 @@ use lib.Dec.{T, eqb, leb, ltb, le→leb, lt→ltb}
 use lib.ListN.{length, getD, take, drop, replicate, length-append, length-drop, length-replicate, getD-replicate, take-append-drop}
 use lib.Seq.{getD-take, getD-drop, ext-getD, length-take-le}
 use Rattle.deck.specs.Lists.{below, all, each}
-use Rattle.deck.specs.Sheet.{Sheet, area, carrier, task, startOf, cause, read}
-use Rattle.deck.specs.Paths.{walks, finishOf}
+use Rattle.deck.specs.Sheet.{Sheet, area, carrier, task, cause, read}
+use Rattle.deck.specs.Paths.{finishOf}
 use Rattle.deck.specs.Search.{taskOf, pathAt}
 use Rattle.deck.specs.Planner.{problem}
 use Rattle.deck.specs.Calls.{taskList, recordWord, goodRecord, goodRecords}
@@ -72,10 +72,6 @@ module _ (d : Sheet) (work : List ℕ) (n : ℕ) where
     pub finish-read : (i : ℕ) → i < d .count
         → getD (finishesIn (fieldsAt work n)) i 0 ≡ finishOf d (task (taskOf (problem d) (nodeAt d work n .tasks) i)) (pathAt (problem d) (nodeAt d work n .paths) i)
     finish-read i x = rw (← task-read i x, path-read i x) (s .sound n b .finishes i x)
-
-    -- each path is a walk on the grid
-    pub path-walks : (i : ℕ) → i < d .count → Mem (pathAt (problem d) (nodeAt d work n .paths) i) (walks d (d .horizon) (startOf d (carrier i)))
-    path-walks i x = rw (path-read i x) (s .sound n b .paths i x)
 
     pub tasks-length : length (nodeAt d work n .tasks) ≡ d .count
     unfolding nodeOf

@@ -72,9 +72,6 @@ wrote-then a b c n g fs u v =
       keys = λ limit k l. v .keys limit k l ∙ u .keys limit k l;
     }
 
-pub wrote-as : (a b c : List ℕ) (n : ℕ) (fs gs : List (List ℕ)) → b ≡ c → fs ≡ gs → Wrote a c n fs → Wrote a b n gs
-wrote-as a b c n fs gs e g w = rw (e, ← g) w
-
 -- word j of field f
 pub read-word : (work : List ℕ) (n f j o : ℕ) → f < 10 → j < getD layout f 0 → o ≡ 512 * n + (offset layout f + j)
     → getD work o 0 ≡ getD (getD (fieldsAt work n) f []) j 0

@@ -6,7 +6,7 @@ use native.Mathlib.Nat.{mod-eq-of-lt, add-zero}
 use native.Mathlib.Numerals.{add-one}
 use native.Mathlib.Omega.{arith}
 use lib.ListN.{length, getD, set, take, drop, replicate, length-set, length-drop, drop-of-length-le, List·getD-append, length-replicate}
-use lib.Seq.{paste, paste-zero, paste-suc, length-paste, getD-take, getD-drop, getD-set-other, length-take-le, drop-drop}
+use lib.Seq.{paste, paste-zero, paste-suc, getD-take, getD-drop, getD-set-other, length-take-le, drop-drop}
 use Rattle.deck.specs.declared.Constraint.{Constraint}
 use Rattle.records.specs.Cut.{part, put, offset, cut}
 use Rattle.records.specs.Record.{layout, fields, fieldsAt, wordsOf, withPath, withSlot, slotIn, rootFields, Wrote}
@@ -111,10 +111,6 @@ module _ (work : List ℕ) (from to j : ℕ) (l : from < to) (b : j < 512) (h : 
   copied-more w e =
       rw (e, copied-read, ← getD-drop (512 * from) work j 0, add-one j)
       (paste-suc work (512 * to) (drop (512 * from) work) j 0 (omega arith) (omega (arith, length-drop (512 * from) work)))
-
-pub length-copied : (work : List ℕ) (from to j : ℕ) → from < to → j ≤ 512 → 512 * to + 512 ≤ length work → length (copied work from to j) ≡ length work
-unfolding copied
-length-copied work from to j l b h = length-paste work (512 * to) (drop (512 * from) work) j (omega arith) (omega (arith, length-drop (512 * from) work))
 
 pub copy-wrote : (work w : List ℕ) (from to j : ℕ) → from < to → j ≡ 512 → 512 * to + 512 ≤ length work → w ≡ copied work from to j → Wrote work w to (fieldsAt work from)
 unfolding copied fieldsAt

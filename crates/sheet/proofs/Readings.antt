@@ -3,7 +3,7 @@ use Prim.Native.Nat.{ℕ, zero, suc, _+_, _*_}
 use mathlib.Core.Path.{_≡_, refl}
 use mathlib.Core.List.{List, [], map}
 use Rattle.deck.specs.Lists.{below}
-use Rattle.deck.specs.Sheet.{Sheet, wordAt, read, widthOf, heightOf, countOf, horizonOf, limitOf, cause}
+use Rattle.deck.specs.Sheet.{wordAt, widthOf, heightOf, countOf, horizonOf, limitOf, cause}
 use Rattle.deck.specs.Calls.{fourteen, readingFor, readCall}
 use Rattle.deck.specs.declared.Reading.{Reading}
 
@@ -35,15 +35,3 @@ cause-for (suc c) s = refl
 pub reading-cause : (s : List ℕ) → readCall s .cause ≡ cause s
 unfolding readCall
 reading-cause s = cause-for (cause s) s
-
--- of an accepted sheet it has the header's values
-pub record Handed (d : Sheet) (r : Reading) : Type 0 where
-  pub width : r .width ≡ d .width
-  pub height : r .height ≡ d .height
-  pub count : r .count ≡ d .count
-  pub horizon : r .horizon ≡ d .horizon
-  pub limit : r .limit ≡ d .limit
-
-pub reading-handed : (s : List ℕ) → cause s ≡ 0 → Handed (read s) (readCall s)
-unfolding readCall readingFor
-reading-handed s ok = record { width = rw ok refl; height = rw ok refl; count = rw ok refl; horizon = rw ok refl; limit = rw ok refl }
