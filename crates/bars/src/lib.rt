@@ -249,7 +249,8 @@ pub fn place_free(
     true
 }
 
-fn later(a: usize, b: usize) -> usize
+// The later of two times.
+pub fn later(a: usize, b: usize) -> usize
     ensures { λ r. ⌜ (a ≤ r) × (b ≤ r) × ((c : ℕ) → a ≤ c → b ≤ c → r ≤ c) ⌝ }
 {
     if a < b { b } else { a }

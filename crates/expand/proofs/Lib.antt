@@ -1,4 +1,4 @@
-pub mod MakingRoots
-pub mod MakingRoots2
-pub mod MakingChildren
-pub mod MakingChildren2
+pub mod RootPaths
+pub mod NextRoot
+pub mod ChildPath
+pub mod Expansion

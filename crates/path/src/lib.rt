@@ -103,12 +103,6 @@ fn finish(
     end
 }
 
-fn later(a: usize, b: usize) -> usize
-    ensures { λ r. ⌜ (a ≤ r) × (b ≤ r) × ((c : ℕ) → a ≤ c → b ≤ c → r ≤ c) ⌝ }
-{
-    if a < b { b } else { a }
-}
-
 // The least path where no cause holds, none finishing before `bound`: it is written only where there is one.
 pub fn least(
     s: &[u8],
@@ -128,7 +122,7 @@ pub fn least(
     let turned = passes::reversed(&goals, n);
     let heads = bars::chains(records, i.0, work);
     let stay = bars::stay_from(records, i.0, sheet::last_goal(s, j));
-    let from = later(bound, stay);
+    let from = bars::later(bound, stay);
     let end = finish(
         s,
         i,

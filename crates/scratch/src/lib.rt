@@ -52,12 +52,6 @@ fn by_passes(
     path::least(s, i, j, mask, bound, &mut work[from..], out, records)
 }
 
-fn later(a: usize, b: usize) -> usize
-    ensures { λ r. ⌜ (a ≤ r) × (b ≤ r) × ((c : ℕ) → a ≤ c → b ≤ c → r ≤ c) ⌝ }
-{
-    if a < b { b } else { a }
-}
-
 // By the walk: at the first time at which the path may finish, and at the next ones. A child's path mostly finishes when its
 // parent's does, or soon after.
 fn by_walk(
@@ -78,7 +72,7 @@ fn by_walk(
     let goals = passes::goals_of(s, j);
     let heads = bars::chains(records, i.0, links);
     let at = 9216 * j.0;
-    let mut from = later(bound, bars::stay_from(records, i.0, sheet::last_goal(s, j)));
+    let mut from = bars::later(bound, bars::stay_from(records, i.0, sheet::last_goal(s, j)));
     for _ in 0..TRIES {
         if horizon < from {
             return Sought::After(from);

@@ -4,7 +4,7 @@ use native.Mathlib.Omega.{arith}
 use mathlib.Core.Path.{sym}
 use lib.Seq.{length-take-le}
 use borrow.Author.Needs.{needs}
-use Rattle.expand.proofs.MakingChildren.{record-room, number-small, child-linked, child-small, carrier-few, child-ready, child-found, child-written, child-later}
+use Rattle.expand.proofs.ChildPath.{record-room, number-small, child-linked, child-small, carrier-few, child-ready, child-found, child-written, child-later}
 use Rattle.expand.proofs.child_path.Statement.{statement}
 use Rattle.expand.proofs.child_path.Tie as tie
 

@@ -11,7 +11,7 @@ use Rattle.deck.specs.Search.{State}
 use Rattle.deck.specs.declared.Constraint.{Constraint}
 use Rattle.nodes.proofs.Readers.{accepted-fits}
 use Rattle.expand.specs.Held.{Begun, Same}
-use Rattle.expand.proofs.MakingRoots.{room-keys, limit-low, given-kept, same-none, same-then, root-held, root-held-same}
+use Rattle.expand.proofs.RootPaths.{room-keys, limit-low, given-kept, same-none, same-then, root-held, root-held-same}
 use Rattle.expand.proofs.complete_root.Statement.{statement}
 use Rattle.expand.proofs.complete_root.Tie as tie
 

@@ -4,7 +4,7 @@ use native.Mathlib.Omega.{arith}
 use denote.Ref.{now}
 use borrow.Author.Needs.{needs}
 use Rattle.deck.specs.Sheet.{read}
-use Rattle.expand.proofs.MakingChildren2.{first-branch, second-branch, fewer-root, fewer-child, same-on, spent-first, spent-second, made-third}
+use Rattle.expand.proofs.Expansion.{first-branch, second-branch, fewer-root, fewer-child, same-on, spent-first, spent-second, made-third}
 use Rattle.expand.proofs.expand.Statement.{statement}
 use Rattle.expand.proofs.expand.Tie as tie
 

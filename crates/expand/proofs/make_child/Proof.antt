@@ -4,7 +4,7 @@ use mathlib.Core.Path.{sym}
 use lib.Seq.{length-take-le}
 use borrow.Author.Needs.{needs}
 use Rattle.sheet.proofs.Accepted.{width-range, horizon-range, limit-range}
-use Rattle.expand.proofs.MakingChildren.{records-room, carrier-few, child-small, no-path, a-path, path-same, not-made, none-left, finish-small, new-child, made-same, child-made}
+use Rattle.expand.proofs.ChildPath.{records-room, carrier-few, child-small, no-path, a-path, path-same, not-made, none-left, finish-small, new-child, made-same, child-made}
 use Rattle.expand.proofs.make_child.Statement.{statement}
 use Rattle.expand.proofs.make_child.Tie as tie
 

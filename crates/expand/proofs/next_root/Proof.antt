@@ -7,8 +7,8 @@ use Prim.Native.Nat.{_<_}
 use Rattle.deck.specs.Sheet.{read}
 use Rattle.nodes.specs.Nodes.{nodeAt}
 use Rattle.roots.specs.Tournament.{FirstSlot}
-use Rattle.expand.proofs.MakingRoots.{room-record, limit-low, given-kept, same-none, same-then}
-use Rattle.expand.proofs.MakingRoots2.{heldState, no-root, none-remain, none-more, one-more, is-no-root, is-root, latest-room, few-carriers, slots-asked, without-slot, with-slot, next-begun, next-same}
+use Rattle.expand.proofs.RootPaths.{room-record, limit-low, given-kept, same-none, same-then}
+use Rattle.expand.proofs.NextRoot.{heldState, no-root, none-remain, none-more, one-more, is-no-root, is-root, latest-room, few-carriers, slots-asked, without-slot, with-slot, next-begun, next-same}
 use Rattle.expand.proofs.next_root.Statement.{statement}
 use Rattle.expand.proofs.next_root.Tie as tie
 

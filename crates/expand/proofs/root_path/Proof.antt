@@ -10,7 +10,7 @@ use lib.ListN.{replicate}
 use Rattle.deck.proofs.PathAnswer.{the-type}
 use Rattle.deck.specs.declared.PathAnswer.{PathAnswer}
 use Rattle.sheet.proofs.Accepted.{count-range, width-range, horizon-range}
-use Rattle.expand.proofs.MakingRoots.{room-record, task-in, root-ready, root-bound, root-found, path-long, finish-small, root-path-begun, root-path-same}
+use Rattle.expand.proofs.RootPaths.{room-record, task-in, root-ready, root-bound, root-found, path-long, finish-small, root-path-begun, root-path-same}
 use Rattle.expand.proofs.root_path.Statement.{statement}
 use Rattle.expand.proofs.root_path.Tie as tie
 

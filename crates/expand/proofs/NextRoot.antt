@@ -33,7 +33,7 @@ use Rattle.roots.proofs.Begun.{begun-stored, begun-nodes, begun-opened}
 use Rattle.roots.proofs.Made.{nothing-left}
 use Rattle.expand.specs.Held.{Given, Nodes, Held, Begun, Same, Grew}
 use Rattle.expand.specs.declared.Grown.the-variants.{Made, Spent}
-use Rattle.expand.proofs.MakingRoots.{room-keys}
+use Rattle.expand.proofs.RootPaths.{room-keys}
 
 -- THE DEFINITION'S STEP, by whether the node is a root and what remains
 abbrev pub stepAt : Sheet → ℕ → Bool → Nodes → ℕ → List (List ℕ) → Turn (List ℕ) Constraint
