@@ -1,4 +1,1 @@
-pub mod Turning
-pub mod Running
 pub mod Calling
-pub mod Bounding
