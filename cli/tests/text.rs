@@ -142,11 +142,22 @@ fn examples_are_planned() {
         example(&help, "horizon 12", "task a: p a"),
         example(&read("docs/TEXT.md"), "horizon 12", "task a: p a"),
         read("examples/sheets/crossing.txt"),
+        read("examples/sheets/evening.txt"),
+        read("examples/sheets/matinee.txt"),
     ];
     for text in texts {
         let ran = deckplan(&["plan"], text.as_bytes());
         assert_eq!((ran.status, ran.error.as_str()), (0, ""), "{text}");
         assert!(ran.printed().starts_with("plan "), "{text}");
+    }
+}
+
+#[test]
+fn example_sheets_are_those_of_their_texts() {
+    for name in ["evening", "matinee"] {
+        let path = format!(concat!(env!("CARGO_MANIFEST_DIR"), "/../examples/sheets/{}"), name);
+        let sheet = std::fs::read(format!("{path}.sheet")).expect(name);
+        assert_eq!(deckplan(&["sheet", &format!("{path}.txt")], b"").out, sheet, "{name}");
     }
 }
 
