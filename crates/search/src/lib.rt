@@ -6,6 +6,7 @@ use deck::Carrier;
 use deck::SearchAnswer;
 use deck::SearchKind;
 use deck::Task;
+use deck::causes;
 use turns::End;
 ghost use mathlib.Core.Path.{_≡_};
 ghost use mathlib.Core.List.{List};
@@ -140,11 +141,13 @@ fn refusal(s: &[u8], work: usize, out: usize) -> u8
     if c != 0 {
         return c;
     }
-    if work < sheet::workspace(s) {
-        return 10;
+    let room = sheet::workspace(s);
+    let words = sheet::byte_at(s, 2) * (sheet::byte_at(s, 3) + 1);
+    if work < room {
+        return causes::SHORT_WORKSPACE;
     }
-    if out < sheet::byte_at(s, 2) * (sheet::byte_at(s, 3) + 1) {
-        return 11;
+    if out < words {
+        return causes::WRONG_LENGTH;
     }
     0
 }
