@@ -9,7 +9,7 @@ use Rattle.kernel.specs.Parts.{stayFrom}
 use Rattle.sheet.proofs.Accepted.{count-range}
 use Rattle.passes.specs.Ready.{Early}
 use Rattle.passes.proofs.Given.{few-records, times-small, horizon-most}
-use Rattle.path.proofs.Finding.{early-of}
+use Rattle.by_passes.proofs.Finding.{early-of}
 use Rattle.scratch.proofs.Seeking.{early-bound, tried-found, tried-cut, tried-later, part-inside, part-low, part-long}
 use Rattle.scratch.proofs.by_walk.Statement.{statement}
 use Rattle.scratch.proofs.by_walk.Tie as tie
