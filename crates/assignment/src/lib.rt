@@ -5,6 +5,7 @@ mod price;
 
 use deck::AssignmentAnswer;
 use deck::AssignmentKind;
+use deck::causes;
 ghost use mathlib.Core.Path.{_≡_};
 ghost use Rattle.deck.specs.Calls.{AssignmentCall};
 ghost use Rattle.assignment.specs.Answers.{withoutTasks};
@@ -27,13 +28,13 @@ pub fn least_assignment(m: u8, table: &[u16]) -> AssignmentAnswer
 {
     let n = tables::wide(m);
     if n < 1 {
-        return without(AssignmentKind::Refused(12));
+        return without(AssignmentKind::Refused(causes::BAD_COUNT));
     }
     if 12 < n {
-        return without(AssignmentKind::Refused(12));
+        return without(AssignmentKind::Refused(causes::BAD_COUNT));
     }
     if table.len() != n * n {
-        return without(AssignmentKind::Refused(12));
+        return without(AssignmentKind::Refused(causes::BAD_COUNT));
     }
     let t = tables::filled(n, table);
     let f = order::first_priced(n, &t);

@@ -1,31 +1,26 @@
 // The first collision of m paths up to time H: least t, place before move, then least pair i < j.
 use deck::CollisionAnswer;
+use deck::causes;
 ghost use mathlib.Core.Path.{_≡_};
 ghost use Rattle.deck.specs.Calls.{collisionCall};
 ghost use Rattle.deck.specs.Numbers.{collisionNumbers};
 ghost use Rattle.collision.specs.Meant.{Meant};
 
-// The causes of document 01: a count m outside 1 to 12, and paths that are not exactly m × (H + 1) words.
-const COUNT: u8 = 12;
-
-const LENGTH: u8 = 11;
-
 // Document 01's call, for any m, h and words.
 pub fn first_collision(m: u8, h: u8, paths: &[u16]) -> CollisionAnswer
-    ensures { λ r. ⌜ r ≡ collisionCall m h (now (paths .entry)) ⌝ }
-    ensures { λ r. ⌜ collisionNumbers r ≡ collisionNumbers (collisionCall m h (now (paths .entry))) ⌝ }
-    ensures { λ r. ⌜ Meant m h (now (paths .entry)) r ⌝ }
+    ensures call { λ r. ⌜ collisionNumbers r ≡ collisionNumbers (collisionCall m h (now (paths .entry))) ⌝ }
+    ensures meant { λ r. ⌜ Meant m h (now (paths .entry)) r ⌝ }
 {
     let count = m as usize;
     let last = h as usize;
     if count < 1 {
-        return CollisionAnswer::Refused(COUNT);
+        return CollisionAnswer::Refused(causes::BAD_COUNT);
     }
     if 12 < count {
-        return CollisionAnswer::Refused(COUNT);
+        return CollisionAnswer::Refused(causes::BAD_COUNT);
     }
     if paths.len() != count * (last + 1) {
-        return CollisionAnswer::Refused(LENGTH);
+        return CollisionAnswer::Refused(causes::WRONG_LENGTH);
     }
     collision_scan::first_among(count, last, paths)
 }

@@ -1,5 +1,6 @@
 -- Document 01, "When the planner declines": the whole result of every public call, for any input. Of each call: the cause, 0
--- where it is accepted; the answer; and the lent words afterwards. Assumes nothing.
+-- where it is accepted; the answer; and the lent words afterwards. The calls promise an answer that is an enum in document 01's
+-- numbers (Numbers), from which the case follows (proofs/Told). Assumes nothing.
 use Prim.Native.Nat.{ℕ, zero, suc, _+_, _-_, _*_, _/_, _%_, _≤_, _<_}
 use mathlib.Core.Path.{_≡_}
 use mathlib.Core.Logic.{_≢_}
@@ -9,6 +10,7 @@ use mathlib.Core.Option.{Option, none, some}
 use lib.ListN.{length, getD, drop, replicate}
 use lib.IntN.{ℤ, pos}
 use lib.Dec.{ltb, leb, eqb}
+use Rattle.deck.specs.Causes.{badNumber, badRecords, badCount, shortWorkspace, wrongLength}
 use Rattle.deck.specs.Lists.{below, within, all, flat, pieces}
 use Rattle.deck.specs.Sheet.{Sheet, Stretch, read, area, mostGoals, carrier, widthOf, heightOf, countOf, horizonOf, limitOf, pairAt, pairsFor, taskStretch, cause, unless, _orElse_}
 use Rattle.deck.specs.Paths.{leastPath, finishOf}
@@ -17,6 +19,7 @@ use Rattle.deck.specs.Assignments.{leastAssignment, sumOf, Priced}
 use Rattle.deck.specs.Search.{Answer, plan, noPlan, spent}
 use Rattle.deck.specs.Planner.{planFor}
 use Rattle.deck.specs.PlanCheck.{planCheck}
+use Rattle.deck.specs.Numbers.{pathNumbers, assignmentNumbers, searchNumbers}
 use Rattle.deck.specs.declared.Carrier.{Carrier}
 use Rattle.deck.specs.declared.Task.{Task}
 use Rattle.deck.specs.declared.Constraint.{Constraint}
@@ -27,7 +30,6 @@ use Rattle.deck.specs.declared.PathAnswer.{PathAnswer}
 use Rattle.deck.specs.declared.PathAnswer.the-variants.{Found as PathFound, NoPath, Refused as PathRefused}
 use Rattle.deck.specs.declared.AssignmentKind.{AssignmentKind}
 use Rattle.deck.specs.declared.AssignmentKind.the-variants.{Least, NoAssignment, Refused as AssignmentRefused}
-use Rattle.deck.specs.declared.AssignmentAnswer.{AssignmentAnswer}
 use Rattle.deck.specs.declared.CollisionAnswer.{CollisionAnswer}
 use Rattle.deck.specs.declared.CollisionAnswer.the-variants.{Found as CollisionFound, NoCollision, Refused as CollisionRefused}
 use Rattle.deck.specs.declared.SearchKind.the-variants.{Plan, NoPlan, Spent, Refused as SearchRefused}
@@ -48,11 +50,11 @@ workspaceFor d = 512 * d .limit + suc (d .horizon) * area d * suc (mostGoals d) 
 
 -- "workspace short"
 abbrev pub workspaceCause : Sheet → ℕ → ℕ
-workspaceCause d work = unless (leb (workspaceFor d) work) 10
+workspaceCause d work = unless (leb (workspaceFor d) work) shortWorkspace
 
 -- "output under .. words"
 abbrev pub outputCause : ℕ → ℕ → ℕ
-outputCause words out = unless (leb words out) 11
+outputCause words out = unless (leb words out) wrongLength
 
 -- the words of a plan's paths, m × (H + 1)
 abbrev pub planWords : Sheet → ℕ
@@ -86,7 +88,7 @@ readCall s = readingFor (cause s) s
 
 -- A TASK'S GOALS: "hands back that stretch of the sheet itself; on any cause, the empty stretch at the sheet's start"
 unfoldable pub goalsCause : List ℕ → Task → ℕ
-goalsCause s j = cause s orElse unless (ltb (j .0) (countOf s)) 8
+goalsCause s j = cause s orElse unless (ltb (j .0) (countOf s)) badNumber
 
 abbrev pub stretchFor : ℕ → Stretch → Stretch
 stretchFor zero r = r
@@ -130,8 +132,8 @@ goodRecords d rs =
 unfoldable pub pathCause : List ℕ → Carrier → Task → ℕ → ℕ → List ℕ → ℕ
 pathCause s i j work out rs =
     cause s
-    orElse unless (ltb (i .0) (countOf s) && ltb (j .0) (countOf s)) 8
-    orElse unless (goodRecords (read s) rs) 9
+    orElse unless (ltb (i .0) (countOf s) && ltb (j .0) (countOf s)) badNumber
+    orElse unless (goodRecords (read s) rs) badRecords
     orElse workspaceCause (read s) work
     orElse outputCause (suc (horizonOf s)) out
 
@@ -151,16 +153,16 @@ unfoldable pub pathOutputFor : ℕ → Sheet → Carrier → Task → List ℕ �
 pathOutputFor zero d i j rs out = pathWritten (leastPath d i j (constraintsOf rs)) out
 pathOutputFor (suc c) d i j rs out = out
 
--- of the words lent, and as they stand afterwards
-pub record PathCall (s : List ℕ) (i : Carrier) (j : Task) (work out rs : List ℕ) (answer : PathAnswer) (work′ out′ : List ℕ) : Type 0 where
-  pub answered : answer ≡ pathAnswerFor (pathCause s i j (length work) (length out) rs) (read s) i j rs
+-- of the words lent, the answer's numbers, and the words as they stand afterwards
+pub record PathCall (s : List ℕ) (i : Carrier) (j : Task) (work out rs numbers work′ out′ : List ℕ) : Type 0 where
+  pub answered : numbers ≡ pathNumbers (pathAnswerFor (pathCause s i j (length work) (length out) rs) (read s) i j rs)
   pub written : out′ ≡ pathOutputFor (pathCause s i j (length work) (length out) rs) (read s) i j rs out
   -- used workspace is free after an accepted call
   pub refused-work : pathCause s i j (length work) (length out) rs ≢ 0 → work′ ≡ work
 
 -- THE LEAST ASSIGNMENT. "count m outside 1 to 12, or table not m × m"
 unfoldable pub assignmentCause : ℕ → List ℕ → ℕ
-assignmentCause m table = unless (within 1 12 m && eqb (length table) (m * m)) 12
+assignmentCause m table = unless (within 1 12 m && eqb (length table) (m * m)) badCount
 
 unfoldable pub leastFor : ℕ → ℕ → List ℕ → Option (List ℕ)
 leastFor zero m table = leastAssignment m table
@@ -183,14 +185,15 @@ abbrev pub PricesOf : ℕ → List ℕ → Option (List ℕ) → List ℤ → Li
 PricesOf m table none rows columns = ZeroFrom 0 rows × ZeroFrom 0 columns
 PricesOf m table (some a) rows columns = Priced m table a rows columns × ZeroFrom m rows × ZeroFrom m columns
 
-pub record AssignmentCall (m : ℕ) (table : List ℕ) (answer : AssignmentAnswer) : Type 0 where
-  pub kind : answer .kind ≡ assignmentKind (assignmentCause m table) m table (leastFor (assignmentCause m table) m table)
-  pub tasks : answer .tasks ≡ assignmentTasks (leastFor (assignmentCause m table) m table)
-  pub prices : PricesOf m table (leastFor (assignmentCause m table) m table) (answer .rows) (answer .columns)
+-- of the answer's numbers, task list and prices
+pub record AssignmentCall (m : ℕ) (table numbers tasks : List ℕ) (rows columns : List ℤ) : Type 0 where
+  pub answered : numbers ≡ assignmentNumbers (assignmentKind (assignmentCause m table) m table (leastFor (assignmentCause m table) m table))
+  pub listed : tasks ≡ assignmentTasks (leastFor (assignmentCause m table) m table)
+  pub priced : PricesOf m table (leastFor (assignmentCause m table) m table) rows columns
 
 -- THE FIRST COLLISION. "m and H, a byte each, and any 16-bit paths"
 unfoldable pub collisionCause : ℕ → ℕ → List ℕ → ℕ
-collisionCause m h ws = unless (within 1 12 m) 12 orElse unless (eqb (length ws) (m * suc h)) 11
+collisionCause m h ws = unless (within 1 12 m) badCount orElse unless (eqb (length ws) (m * suc h)) wrongLength
 
 unfoldable pub collisionFound : Option Collision → CollisionAnswer
 collisionFound none = NoCollision
@@ -236,15 +239,16 @@ searchAnswer s work out = searchAnswerFor (searchCause s work out) (read s)
 unfoldable pub searchOutput : List ℕ → ℕ → List ℕ → List ℕ
 searchOutput s work out = searchOutputFor (searchCause s work (length out)) (read s) out
 
-pub record SearchCall (s work out : List ℕ) (answer : SearchAnswer) (work′ out′ : List ℕ) : Type 0 where
-  pub answered : answer ≡ searchAnswer s (length work) (length out)
+-- of the words lent, the answer's numbers, and the words as they stand afterwards
+pub record SearchCall (s work out numbers work′ out′ : List ℕ) : Type 0 where
+  pub answered : numbers ≡ searchNumbers (searchAnswer s (length work) (length out))
   pub written : out′ ≡ searchOutput s (length work) out
   -- used workspace is free after an accepted call
   pub refused-work : searchCause s (length work) (length out) ≢ 0 → work′ ≡ work
 
 -- THE PLAN CHECK. Of a task list of 12 and paths
 unfoldable pub checkCause : List ℕ → List ℕ → ℕ
-checkCause s ws = cause s orElse unless (eqb (length ws) (planWords (read s))) 11
+checkCause s ws = cause s orElse unless (eqb (length ws) (planWords (read s))) wrongLength
 
 unfoldable pub checkFound : Option ℕ → CheckAnswer
 checkFound none = No

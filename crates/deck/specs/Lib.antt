@@ -1,3 +1,4 @@
+pub mod Causes
 pub mod Lists
 pub mod Sheet
 pub mod Paths
@@ -6,8 +7,8 @@ pub mod Assignments
 pub mod Search
 pub mod Planner
 pub mod PlanCheck
-pub mod Calls
 pub mod Numbers
+pub mod Calls
 pub mod Listing
 pub mod Rounds
 pub mod Starred

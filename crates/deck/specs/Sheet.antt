@@ -4,6 +4,7 @@ use mathlib.Core.Bool.{Bool, _&&_, cond}
 use mathlib.Core.List.{List, [], _∷_, map}
 use lib.ListN.{length, getD, take, drop}
 use lib.Dec.{ltb, leb, eqb}
+use Rattle.deck.specs.Causes.{shortSheet, badHeader, badDirectory, badGrid, badStart, badGoal, sharedLastGoal}
 use Rattle.deck.specs.Lists.{below, within, all, distinct, last, greatest}
 use Rattle.deck.specs.declared.Carrier.{Carrier}
 use Rattle.deck.specs.declared.Task.{Task}
@@ -184,10 +185,10 @@ zero orElse d = d
 -- 0 for an accepted sheet, and else the number of the first cause that lies in it
 unfoldable pub cause : List ℕ → ℕ
 cause s =
-    unless (leb 8 (length s)) 1
-    orElse unless (goodHeader s) 2
-    orElse unless (goodDirectory s) 3
-    orElse unless (goodGrid (read s)) 4
-    orElse unless (goodStarts (read s)) 5
-    orElse unless (goodGoals (read s)) 6
-    orElse unless (goodLastGoals (read s)) 7
+    unless (leb 8 (length s)) shortSheet
+    orElse unless (goodHeader s) badHeader
+    orElse unless (goodDirectory s) badDirectory
+    orElse unless (goodGrid (read s)) badGrid
+    orElse unless (goodStarts (read s)) badStart
+    orElse unless (goodGoals (read s)) badGoal
+    orElse unless (goodLastGoals (read s)) sharedLastGoal

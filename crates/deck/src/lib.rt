@@ -1,5 +1,6 @@
 // The planner's terms: the types that every call shares, and the type of each call's answer.
 // The definitions of specs/ speak of these same types, so that code and definitions have one vocabulary.
+pub mod causes;
 
 // A carrier's number and a task's number both count from zero and are types of their own, so that neither stands for the
 // other (a and g in the literature).

@@ -1,5 +1,6 @@
 // The assignments in order: the first of them as lists, by the records of roots in the lent workspace.
 use assignment::order;
+use deck::causes;
 use roots::Choice;
 ghost use mathlib.Core.Path.{_≡_};
 ghost use mathlib.Core.List.{List};
@@ -102,19 +103,19 @@ pub fn in_order(m: u8, table: &[u16], work: &mut [u32], lists: &mut [u8]) -> Cou
     let n = tables::wide(m);
     if n < 1 {
         return Count {
-            cause: 12,
+            cause: causes::BAD_COUNT,
             count: 0,
         };
     }
     if 12 < n {
         return Count {
-            cause: 12,
+            cause: causes::BAD_COUNT,
             count: 0,
         };
     }
     if table.len() != n * n {
         return Count {
-            cause: 12,
+            cause: causes::BAD_COUNT,
             count: 0,
         };
     }

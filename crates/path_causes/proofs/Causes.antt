@@ -8,6 +8,7 @@ use lib.ListN.{length}
 use lib.Dec.{T, leb, ltb}
 use borrow.Author.Tests.{eq-eqb, ne-eqb, le-leb, lt-leb, lt-ltb, le-ltb}
 use Rattle.deck.specs.Lists.{below, all}
+use Rattle.deck.specs.Causes.{badNumber, badRecords, shortWorkspace, wrongLength}
 use Rattle.deck.specs.Sheet.{Sheet, read, area, countOf, horizonOf, cause, unless, _orElse_}
 use Rattle.deck.specs.Calls.{recordWord, goodTail, goodRecord, goodRecords, workspaceFor, workspaceCause, outputCause, pathCause}
 use Rattle.deck.specs.declared.Carrier.{Carrier}
@@ -91,32 +92,32 @@ module _ (s : List ℕ) (i : Carrier) (j : Task) (work out : ℕ) (rs : List ℕ
   unfolding pathCause
   cause-first c e n = go c e n
     where
-      go : (c : ℕ) → c ≡ cause s → c ≢ 0 → c ≡ (cause s orElse (unless (ltb (i .0) (countOf s) && ltb (j .0) (countOf s)) 8 orElse (unless (goodRecords (read s) rs) 9 orElse (workspaceCause (read s) work orElse outputCause (suc (horizonOf s)) out))))
+      go : (c : ℕ) → c ≡ cause s → c ≢ 0 → c ≡ (cause s orElse (unless (ltb (i .0) (countOf s) && ltb (j .0) (countOf s)) badNumber orElse (unless (goodRecords (read s) rs) badRecords orElse (workspaceCause (read s) work orElse outputCause (suc (horizonOf s)) out))))
       go zero e n = absurd (n refl)
       go (suc c) e n = rw (← e) refl
 
   module _ (ok : cause s ≡ 0) where
-    pub cause-carrier : countOf s ≤ i .0 → 8 ≡ pathCause s i j work out rs
+    pub cause-carrier : countOf s ≤ i .0 → badNumber ≡ pathCause s i j work out rs
     unfolding pathCause
     cause-carrier h = rw (ok, le-ltb (i .0) (countOf s) h) refl
 
     module _ (a : i .0 < countOf s) where
-      pub cause-task : countOf s ≤ j .0 → 8 ≡ pathCause s i j work out rs
+      pub cause-task : countOf s ≤ j .0 → badNumber ≡ pathCause s i j work out rs
       unfolding pathCause
       cause-task h = rw (ok, lt-ltb (i .0) (countOf s) a, le-ltb (j .0) (countOf s) h) refl
 
       module _ (b : j .0 < countOf s) where
-        pub cause-records : goodRecords (read s) rs ≡ false → 9 ≡ pathCause s i j work out rs
+        pub cause-records : goodRecords (read s) rs ≡ false → badRecords ≡ pathCause s i j work out rs
         unfolding pathCause
         cause-records h = rw (ok, lt-ltb (i .0) (countOf s) a, lt-ltb (j .0) (countOf s) b, h) refl
 
         module _ (c : goodRecords (read s) rs ≡ true) where
-          pub cause-work : work < workspaceFor (read s) → 10 ≡ pathCause s i j work out rs
+          pub cause-work : work < workspaceFor (read s) → shortWorkspace ≡ pathCause s i j work out rs
           unfolding pathCause
           cause-work h = rw (ok, lt-ltb (i .0) (countOf s) a, lt-ltb (j .0) (countOf s) b, c, lt-leb (workspaceFor (read s)) work h) refl
 
           module _ (e : workspaceFor (read s) ≤ work) where
-            pub cause-out : out < suc (horizonOf s) → 11 ≡ pathCause s i j work out rs
+            pub cause-out : out < suc (horizonOf s) → wrongLength ≡ pathCause s i j work out rs
             unfolding pathCause
             cause-out h = rw (ok, lt-ltb (i .0) (countOf s) a, lt-ltb (j .0) (countOf s) b, c, le-leb (workspaceFor (read s)) work e, lt-leb (suc (horizonOf s)) out h) refl
 

@@ -1,6 +1,7 @@
 // The causes for which the single-path call declines, in document 01's order.
 use deck::Carrier;
 use deck::Task;
+use deck::causes;
 ghost use mathlib.Core.Path.{_≡_};
 ghost use Prim.Native.Nat.{_+_, _*_, _/_, _%_, _<_};
 ghost use lib.ListN.{length};
@@ -88,19 +89,21 @@ pub fn refusal(s: &[u8], i: Carrier, j: Task, work: usize, out: usize, records: 
     }
     let m = sheet::byte_at(s, 2);
     if m <= i.0 {
-        return 8;
+        return causes::BAD_NUMBER;
     }
     if m <= j.0 {
-        return 8;
+        return causes::BAD_NUMBER;
     }
     if !good_records(s, records) {
-        return 9;
+        return causes::BAD_RECORDS;
     }
-    if work < sheet::workspace(s) {
-        return 10;
+    let room = sheet::workspace(s);
+    let words = sheet::byte_at(s, 3) + 1;
+    if work < room {
+        return causes::SHORT_WORKSPACE;
     }
-    if out < sheet::byte_at(s, 3) + 1 {
-        return 11;
+    if out < words {
+        return causes::WRONG_LENGTH;
     }
     0
 }

@@ -8,6 +8,7 @@ use native.Mathlib.Omega.{arith}
 use lib.ListN.{length, take, drop}
 use lib.Dec.{eqb}
 use borrow.Author.Tests.{eq-eqb, ne-eqb, eqb-true}
+use Rattle.deck.specs.Causes.{wrongLength}
 use Rattle.deck.specs.Lists.{all, isNil, sum, pieces}
 use Rattle.deck.specs.Sheet.{read, cause, widthOf, countOf, horizonOf, unless, _orElse_}
 use Rattle.deck.specs.Collisions.{collisions}
@@ -90,37 +91,37 @@ module _ (s tasks ws : List ℕ) where
       found-yes (some g) e = cc
 
       yes-plan : (c : ℕ) → cause s ≡ c → (b : Bool) → eqb (length ws) (planWords (read s)) ≡ b
-          → checkFor (c orElse unless b 11) (read s) tasks ws ≡ Yes f → PlanFor s tasks ws f
+          → checkFor (c orElse unless b wrongLength) (read s) tasks ws ≡ Yes f → PlanFor s tasks ws f
       yes-plan (suc c) q b k e = let z : _≡_ {A = ℕ} 0 1 = cc in absurd (omega arith)
       yes-plan zero q false k e = let z : _≡_ {A = ℕ} 0 1 = cc in absurd (omega arith)
       yes-plan zero q true k e =
           let p = plan-check-meant (read s) tasks ps f .0 (found-yes (planCheck (read s) tasks ps) e) in
           record { accepted = q; exact = eqb-true (length ws) (planWords (read s)) k; rest = p .0; finishes = p .1 .0; plan = p .1 .1; flowtime = p .1 .2 }
 
-      plan-yes : PlanFor s tasks ws f → checkFor (cause s orElse unless (eqb (length ws) (planWords (read s))) 11) (read s) tasks ws ≡ Yes f
+      plan-yes : PlanFor s tasks ws f → checkFor (cause s orElse unless (eqb (length ws) (planWords (read s))) wrongLength) (read s) tasks ws ≡ Yes f
       plan-yes p =
           rw (p .accepted, eq-eqb (length ws) (planWords (read s)) (p .exact))
           (ap checkFound (plan-check-meant (read s) tasks ps f .1 (p .rest, (p .finishes, p .plan, p .flowtime))))
 
   -- what the call ensures of its answer
   abbrev pub Ensured : CheckAnswer → Type 0
-  Ensured r = (r ≡ checkCall s tasks ws) × ((checkNumbers r ≡ checkNumbers (checkCall s tasks ws)) × Meant s tasks ws r)
+  Ensured r = (checkNumbers r ≡ checkNumbers (checkCall s tasks ws)) × Meant s tasks ws r
 
-  ensured : {r : CheckAnswer} → r ≡ checkCall s tasks ws → Ensured r
-  ensured e = (e, (ap checkNumbers e, subst (Meant s tasks ws) (sym e) meant))
+  ensured : (r : CheckAnswer) → r ≡ checkCall s tasks ws → Ensured r
+  ensured r e = (ap checkNumbers e, subst (Meant s tasks ws) (sym e) meant)
 
   pub sheet-refused : (c : ℕ) → c ≡ cause s → (c ≡ 0 → ⊥) → Ensured (Refused c)
   unfolding checkCall checkCause checkFor
-  sheet-refused c e n = ensured (rw (← e) (go c n))
+  sheet-refused c e n = ensured (Refused c) (rw (← e) (go c n))
     where
-      go : (c : ℕ) → (c ≡ 0 → ⊥) → Refused c ≡ checkFor (c orElse unless (eqb (length ws) (planWords (read s))) 11) (read s) tasks ws
+      go : (c : ℕ) → (c ≡ 0 → ⊥) → Refused c ≡ checkFor (c orElse unless (eqb (length ws) (planWords (read s))) wrongLength) (read s) tasks ws
       go zero n = absurd (n refl)
       go (suc c) n = refl
 
   module _ (ok : cause s ≡ 0) where
-    pub length-refused : (length ws ≡ planWords (read s) → ⊥) → Ensured (Refused 11)
+    pub length-refused : (length ws ≡ planWords (read s) → ⊥) → Ensured (Refused wrongLength)
     unfolding checkCall checkCause checkFor
-    length-refused n = ensured (rw (ok, ne-eqb (length ws) (planWords (read s)) n))
+    length-refused n = ensured (Refused wrongLength) (rw (ok, ne-eqb (length ws) (planWords (read s)) n))
 
     module _ (exact : length ws ≡ planWords (read s)) where
       by-plan : verdict ends assigned served apart flow ≡ checkCall s tasks ws
@@ -128,16 +129,16 @@ module _ (s tasks ws : List ℕ) where
       by-plan = rw (ok, eq-eqb (length ws) (planWords (read s)) exact)
 
       pub not-assigned : assigned ≡ false → Ensured No
-      not-assigned e = ensured (no-assignment ends served apart flow ∙ ap (λ b. verdict ends b served apart flow) (sym e) ∙ by-plan)
+      not-assigned e = ensured No (no-assignment ends served apart flow ∙ ap (λ b. verdict ends b served apart flow) (sym e) ∙ by-plan)
 
       pub not-ended : ends ≡ false → Ensured No
-      not-ended e = ensured (verdict-none none refl ∙ ap (λ b. verdict b assigned served apart flow) (sym e) ∙ by-plan)
+      not-ended e = ensured No (verdict-none none refl ∙ ap (λ b. verdict b assigned served apart flow) (sym e) ∙ by-plan)
 
       pub not-apart : apart ≡ false → Ensured No
-      not-apart e = ensured (collided ends assigned served flow ∙ ap (λ b. verdict ends assigned served b flow) (sym e) ∙ by-plan)
+      not-apart e = ensured No (collided ends assigned served flow ∙ ap (λ b. verdict ends assigned served b flow) (sym e) ∙ by-plan)
 
       pub all-tested : ends ≡ true → assigned ≡ true → apart ≡ true → {r x : CheckAnswer} → r ≡ x → x ≡ flowAnswer (read s) a ps → Ensured r
       unfolding flowAnswer
-      all-tested e f g p q =
+      all-tested e f g {r} p q =
           let w : verdict true true served true flow ≡ verdict ends assigned served apart flow = rw (e, f, g) in
-          ensured (p ∙ q ∙ by-paths served flow ∙ w ∙ by-plan)
+          ensured r (p ∙ q ∙ by-paths served flow ∙ w ∙ by-plan)

@@ -6,6 +6,7 @@ use deck::CheckAnswer;
 use deck::CollisionAnswer;
 use deck::PathAnswer;
 use deck::Task;
+use deck::causes;
 ghost use mathlib.Core.Path.{_≡_};
 ghost use Prim.Native.Nat.{suc, _*_, _<_, _≤_};
 ghost use lib.ListN.{length, take};
@@ -16,9 +17,6 @@ ghost use Rattle.deck.specs.Calls.{checkCall};
 ghost use Rattle.deck.specs.Numbers.{checkNumbers};
 ghost use Rattle.plan_check.specs.Answers.{flowAnswer};
 ghost use Rattle.plan_check.specs.Meant.{Meant};
-
-// The cause of document 01: paths that are not exactly m × (H + 1) words.
-const LENGTH: u8 = 11;
 
 // No two of the m paths up to time h collide.
 fn apart(m: usize, h: usize, paths: &[u16]) -> bool
@@ -52,9 +50,8 @@ fn flowtime(s: &[u8], w: usize, m: usize, h: usize, tasks: [u8; 12], paths: &[u1
 
 // Document 01's call, for any bytes, task list and words.
 pub fn check_plan(s: &[u8], tasks: [u8; 12], paths: &[u16]) -> CheckAnswer
-    ensures { λ r. ⌜ r ≡ checkCall (now (s .entry)) tasks (now (paths .entry)) ⌝ }
-    ensures { λ r. ⌜ checkNumbers r ≡ checkNumbers (checkCall (now (s .entry)) tasks (now (paths .entry))) ⌝ }
-    ensures { λ r. ⌜ Meant (now (s .entry)) tasks (now (paths .entry)) r ⌝ }
+    ensures call { λ r. ⌜ checkNumbers r ≡ checkNumbers (checkCall (now (s .entry)) tasks (now (paths .entry))) ⌝ }
+    ensures meant { λ r. ⌜ Meant (now (s .entry)) tasks (now (paths .entry)) r ⌝ }
 {
     let head = sheet::read(s);
     if head.cause != 0 {
@@ -63,7 +60,7 @@ pub fn check_plan(s: &[u8], tasks: [u8; 12], paths: &[u16]) -> CheckAnswer
     let m = head.count;
     let h = head.horizon;
     if paths.len() != m * (h + 1) {
-        return CheckAnswer::Refused(LENGTH);
+        return CheckAnswer::Refused(causes::WRONG_LENGTH);
     }
     if !tasks::assigns(tasks, m) {
         return CheckAnswer::No;

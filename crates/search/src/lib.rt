@@ -1,6 +1,7 @@
 // The search for a plan of least flowtime, from sheet to answer: the call.
 use deck::SearchAnswer;
 use deck::SearchKind;
+use deck::causes;
 ghost use mathlib.Core.Path.{_≡_};
 ghost use Rattle.deck.specs.Sheet.{read};
 ghost use Rattle.deck.specs.Calls.{searchCause, SearchCall};
@@ -14,11 +15,13 @@ fn refusal(s: &[u8], work: usize, out: usize) -> u8
     if c != 0 {
         return c;
     }
-    if work < sheet::workspace(s) {
-        return 10;
+    let room = sheet::workspace(s);
+    let words = sheet::byte_at(s, 2) * (sheet::byte_at(s, 3) + 1);
+    if work < room {
+        return causes::SHORT_WORKSPACE;
     }
-    if out < sheet::byte_at(s, 2) * (sheet::byte_at(s, 3) + 1) {
-        return 11;
+    if out < words {
+        return causes::WRONG_LENGTH;
     }
     0
 }

@@ -4,6 +4,7 @@ use mathlib.Core.Path.{_≡_, refl, sym, _∙_}
 use mathlib.Core.Bool.{Bool, true, false, not, _&&_}
 use mathlib.Core.List.{List}
 use borrow.Author.Tests.{not-true, not-false}
+use Rattle.deck.specs.Causes.{badHeader, badDirectory, badGrid, badStart, badGoal, sharedLastGoal}
 use Rattle.deck.specs.Sheet.{read, goodHeader, goodDirectory, goodGrid, goodStarts, goodGoals, goodLastGoals, unless, _orElse_}
 
 module _ {b t : Bool} (e : b ≡ t) where
@@ -29,19 +30,19 @@ module _ {b t : Bool} (e : b ≡ t) where
 
 -- the causes from a number on
 abbrev pub from7 : List ℕ → ℕ
-from7 s = unless (goodLastGoals (read s)) 7
+from7 s = unless (goodLastGoals (read s)) sharedLastGoal
 
 abbrev pub from6 : List ℕ → ℕ
-from6 s = unless (goodGoals (read s)) 6 orElse from7 s
+from6 s = unless (goodGoals (read s)) badGoal orElse from7 s
 
 abbrev pub from5 : List ℕ → ℕ
-from5 s = unless (goodStarts (read s)) 5 orElse from6 s
+from5 s = unless (goodStarts (read s)) badStart orElse from6 s
 
 abbrev pub from4 : List ℕ → ℕ
-from4 s = unless (goodGrid (read s)) 4 orElse from5 s
+from4 s = unless (goodGrid (read s)) badGrid orElse from5 s
 
 abbrev pub from3 : List ℕ → ℕ
-from3 s = unless (goodDirectory s) 3 orElse from4 s
+from3 s = unless (goodDirectory s) badDirectory orElse from4 s
 
 abbrev pub from2 : List ℕ → ℕ
-from2 s = unless (goodHeader s) 2 orElse from3 s
+from2 s = unless (goodHeader s) badHeader orElse from3 s

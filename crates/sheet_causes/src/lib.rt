@@ -1,5 +1,6 @@
 // The causes that lie in the sheet itself, one pass for each.
 use deck::Task;
+use deck::causes;
 use sheet_parts::COUNT;
 use sheet_parts::GRID;
 use sheet_parts::HEIGHT;
@@ -237,25 +238,25 @@ pub fn cause(s: &[u8]) -> u8
     ensures { λ r. ⌜ r ≡ cause (now (s .entry)) ⌝ }
 {
     if s.len() < 8 {
-        return 1;
+        return causes::SHORT_SHEET;
     }
     if !header_good(s) {
-        return 2;
+        return causes::BAD_HEADER;
     }
     if !directory_good(s) {
-        return 3;
+        return causes::BAD_DIRECTORY;
     }
     if !grid_good(s) {
-        return 4;
+        return causes::BAD_GRID;
     }
     if !starts_good(s) {
-        return 5;
+        return causes::BAD_START;
     }
     if !goals_good(s) {
-        return 6;
+        return causes::BAD_GOAL;
     }
     if !last_goals_good(s) {
-        return 7;
+        return causes::SHARED_LAST_GOAL;
     }
     0
 }

@@ -8,6 +8,7 @@ use native.Mathlib.Omega.{arith}
 use lib.Dec.{ltb}
 use lib.ListN.{length, getD, length-map, List·getD-eq-default, List·getD-map}
 use borrow.Author.Tests.{lt-ltb, le-ltb}
+use Rattle.deck.specs.Causes.{badNumber}
 use Rattle.deck.specs.Lists.{below}
 use Rattle.deck.specs.Sheet.{Stretch, countOf, task, taskPair, taskStretch, part, words, read, goalsOf, cause, unless, _orElse_}
 use Rattle.deck.specs.Calls.{stretchFor, goalsCause, goalsCall}
@@ -58,7 +59,7 @@ module _ (s : List ℕ) (j : Task) where
 
   pub goals-refused : (cause s ≡ 0 → ⊥) → goalsCall s j ≡ nowhere
   unfolding goalsCall goalsCause
-  goals-refused h = unchosen (cause s) (unless (ltb (j .0) (countOf s)) 8) (taskStretch s j) h
+  goals-refused h = unchosen (cause s) (unless (ltb (j .0) (countOf s)) badNumber) (taskStretch s j) h
 
   pub part-begins : cause s ≡ 0 → taskPart s j .offset ≤ length s
   part-begins ok = go (decLe (countOf s) (j .0))

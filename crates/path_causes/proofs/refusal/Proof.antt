@@ -1,51 +1,115 @@
 -- `path_causes::refusal` meets its contract, cause by cause. Assumes nothing.
 use borrow.Author.Needs.{needs}
 use native.Mathlib.Omega.{arith}
-use mathlib.Core.Path.{sym, _∙_}
-use Prim.Native.Nat.{_-_}
+use mathlib.Core.Path.{_≡_, sym, _∙_}
+use mathlib.Core.Bool.{true}
+use Prim.Native.Nat.{_<_, _≤_}
 use borrow.Author.Tests.{not-true, not-false}
+use Rattle.deck.specs.Sheet.{read, countOf, cause}
+use Rattle.deck.specs.Calls.{goodRecords, workspaceFor}
 use Rattle.path_causes.proofs.Causes.{cause-first, cause-carrier, cause-task, cause-records, cause-work, cause-out, cause-none}
 use Rattle.path_causes.proofs.refusal.Statement.{statement}
 use Rattle.path_causes.proofs.refusal.Tie as tie
+
+-- What each test that has passed says
+accepted : (c : tie.Else1) → cause (c .before .before .before .before .args .s .now) ≡ 0
+accepted c = sym (c .before .cause .ensures) ∙ c .if1 .left
+
+carrier-in : (c : tie.Else2) → let a = c .before .before .before .before .before .before .before .args in a .i .0 < countOf (a .s .now)
+carrier-in c = omega (arith, c .before .before .byte-at .ensures .0, c .if2 .left)
+
+task-in : (c : tie.Else3) → let a = c .before .before .before .before .before .before .before .before .before .args in a .j .0 < countOf (a .s .now)
+task-in c = omega (arith, c .before .before .before .before .byte-at .ensures .0, c .if3 .left)
+
+records-good : (c : tie.Else4) → let a = c .before .before .before .before .before .before .before .before .before .before .before .args in goodRecords (read (a .s .now)) (a .records .now) ≡ true
+records-good c = sym (c .before .good-records .ensures) ∙ not-false _ (c .if4 .left)
+
+-- the words of workspace that the sheet asks for
+room-is : (c : tie.After-workspace) → c .workspace .result ≡ workspaceFor (read (c .before .before .before .before .before .before .before .before .before .before .before .before .args .s .now))
+room-is c = c .workspace .ensures .0 (accepted (c .before .before .before .before .before .before .before .before))
+
+enough : (c : tie.Else5) → let a = c .before .before .before .before .before .before .before .before .before .before .before .before .before .before .args in workspaceFor (read (a .s .now)) ≤ a .work
+enough c = omega (arith, room-is (c .before .before), c .if5 .left)
 
 cause-requires : tie.Need-cause-requires
 cause-requires c κs = search needs
 
 returns : tie.Need-returns
-returns c = cause-first (c .before .before .before .before .args .s .now) (c .before .before .before .before .args .i) (c .before .before .before .before .args .j) (c .before .before .before .before .args .work) (c .before .before .before .before .args .out) (c .before .before .before .before .args .records .now) _ (c .before .cause .ensures) (c .if1 .taken)
+returns c =
+    let a = c .before .before .before .before .args in
+    cause-first (a .s .now) (a .i) (a .j) (a .work) (a .out) (a .records .now) _ (c .before .cause .ensures) (c .if1 .taken)
 
 byte-at-requires : tie.Need-byte-at-requires
 byte-at-requires c κs = search needs
 
 returns-2 : tie.Need-returns-2
-returns-2 c = cause-carrier (c .before .before .before .before .before .before .before .args .s .now) (c .before .before .before .before .before .before .before .args .i) (c .before .before .before .before .before .before .before .args .j) (c .before .before .before .before .before .before .before .args .work) (c .before .before .before .before .before .before .before .args .out) (c .before .before .before .before .before .before .before .args .records .now) (sym (c .before .before .before .before .cause .ensures) ∙ c .before .before .before .if1 .left) (omega (arith, c .before .before .byte-at .ensures .0, c .if2 .taken))
+returns-2 c =
+    let e1 = c .before .before .before in
+    let a = e1 .before .before .before .before .args in
+    cause-carrier (a .s .now) (a .i) (a .j) (a .work) (a .out) (a .records .now) (accepted e1)
+    (omega (arith, c .before .before .byte-at .ensures .0, c .if2 .taken))
 
 returns-3 : tie.Need-returns-3
-returns-3 c = cause-task (c .before .before .before .before .before .before .before .before .before .args .s .now) (c .before .before .before .before .before .before .before .before .before .args .i) (c .before .before .before .before .before .before .before .before .before .args .j) (c .before .before .before .before .before .before .before .before .before .args .work) (c .before .before .before .before .before .before .before .before .before .args .out) (c .before .before .before .before .before .before .before .before .before .args .records .now) (sym (c .before .before .before .before .before .before .cause .ensures) ∙ c .before .before .before .before .before .if1 .left) (omega (arith, c .before .before .before .before .byte-at .ensures .0, c .before .before .if2 .left)) (omega (arith, c .before .before .before .before .byte-at .ensures .0, c .if3 .taken))
+returns-3 c =
+    let e2 = c .before .before in
+    let e1 = e2 .before .before .before in
+    let a = e1 .before .before .before .before .args in
+    cause-task (a .s .now) (a .i) (a .j) (a .work) (a .out) (a .records .now) (accepted e1) (carrier-in e2)
+    (omega (arith, e2 .before .before .byte-at .ensures .0, c .if3 .taken))
 
 good-records-requires : tie.Need-good-records-requires
 good-records-requires c κs = search needs
 
 returns-4 : tie.Need-returns-4
-returns-4 c = cause-records (c .before .before .before .before .before .before .before .before .before .before .before .args .s .now) (c .before .before .before .before .before .before .before .before .before .before .before .args .i) (c .before .before .before .before .before .before .before .before .before .before .before .args .j) (c .before .before .before .before .before .before .before .before .before .before .before .args .work) (c .before .before .before .before .before .before .before .before .before .before .before .args .out) (c .before .before .before .before .before .before .before .before .before .before .before .args .records .now) (sym (c .before .before .before .before .before .before .before .before .cause .ensures) ∙ c .before .before .before .before .before .before .before .if1 .left) (omega (arith, c .before .before .before .before .before .before .byte-at .ensures .0, c .before .before .before .before .if2 .left)) (omega (arith, c .before .before .before .before .before .before .byte-at .ensures .0, c .before .before .if3 .left)) (sym (c .before .good-records .ensures) ∙ not-true _ (c .if4 .taken))
+returns-4 c =
+    let e3 = c .before .before in
+    let e2 = e3 .before .before in
+    let e1 = e2 .before .before .before in
+    let a = e1 .before .before .before .before .args in
+    cause-records (a .s .now) (a .i) (a .j) (a .work) (a .out) (a .records .now) (accepted e1) (carrier-in e2) (task-in e3)
+    (sym (c .before .good-records .ensures) ∙ not-true _ (c .if4 .taken))
 
 workspace-requires : tie.Need-workspace-requires
 workspace-requires c κs = search needs
 
-returns-5 : tie.Need-returns-5
-returns-5 c = cause-work (c .before .before .before .before .before .before .before .before .before .before .before .before .before .args .s .now) (c .before .before .before .before .before .before .before .before .before .before .before .before .before .args .i) (c .before .before .before .before .before .before .before .before .before .before .before .before .before .args .j) (c .before .before .before .before .before .before .before .before .before .before .before .before .before .args .work) (c .before .before .before .before .before .before .before .before .before .before .before .before .before .args .out) (c .before .before .before .before .before .before .before .before .before .before .before .before .before .args .records .now) (sym (c .before .before .before .before .before .before .before .before .before .before .cause .ensures) ∙ c .before .before .before .before .before .before .before .before .before .if1 .left) (omega (arith, c .before .before .before .before .before .before .before .before .byte-at .ensures .0, c .before .before .before .before .before .before .if2 .left)) (omega (arith, c .before .before .before .before .before .before .before .before .byte-at .ensures .0, c .before .before .before .before .if3 .left)) (sym (c .before .before .before .good-records .ensures) ∙ not-false _ (c .before .before .if4 .left)) (omega (arith, c .before .workspace .ensures .0 (sym (c .before .before .before .before .before .before .before .before .before .before .cause .ensures) ∙ c .before .before .before .before .before .before .before .before .before .if1 .left), c .if5 .taken))
-
 byte-at-requires-2 : tie.Need-byte-at-requires-2
 byte-at-requires-2 c κs = search needs
 
-add-if6 : tie.Need-add-if6
-add-if6 c = search needs
+add-words : tie.Need-add-words
+add-words c = search needs
+
+returns-5 : tie.Need-returns-5
+returns-5 c =
+    let w = c .before .before in
+    let e4 = w .before in
+    let e3 = e4 .before .before in
+    let e2 = e3 .before .before in
+    let e1 = e2 .before .before .before in
+    let a = e1 .before .before .before .before .args in
+    cause-work (a .s .now) (a .i) (a .j) (a .work) (a .out) (a .records .now) (accepted e1) (carrier-in e2) (task-in e3) (records-good e4)
+    (omega (arith, room-is w, c .if5 .taken))
 
 returns-6 : tie.Need-returns-6
-returns-6 c = cause-out (c .before .before .before .before .before .before .before .before .before .before .before .before .before .before .before .args .s .now) (c .before .before .before .before .before .before .before .before .before .before .before .before .before .before .before .args .i) (c .before .before .before .before .before .before .before .before .before .before .before .before .before .before .before .args .j) (c .before .before .before .before .before .before .before .before .before .before .before .before .before .before .before .args .work) (c .before .before .before .before .before .before .before .before .before .before .before .before .before .before .before .args .out) (c .before .before .before .before .before .before .before .before .before .before .before .before .before .before .before .args .records .now) (sym (c .before .before .before .before .before .before .before .before .before .before .before .before .cause .ensures) ∙ c .before .before .before .before .before .before .before .before .before .before .before .if1 .left) (omega (arith, c .before .before .before .before .before .before .before .before .before .before .byte-at .ensures .0, c .before .before .before .before .before .before .before .before .if2 .left)) (omega (arith, c .before .before .before .before .before .before .before .before .before .before .byte-at .ensures .0, c .before .before .before .before .before .before .if3 .left)) (sym (c .before .before .before .before .before .good-records .ensures) ∙ not-false _ (c .before .before .before .before .if4 .left)) (omega (arith, c .before .before .before .workspace .ensures .0 (sym (c .before .before .before .before .before .before .before .before .before .before .before .before .cause .ensures) ∙ c .before .before .before .before .before .before .before .before .before .before .before .if1 .left), c .before .before .if5 .left)) (omega (arith, c .before .byte-at2 .ensures .0, c .if6 .taken))
+returns-6 c =
+    let e5 = c .before in
+    let e4 = e5 .before .before .before in
+    let e3 = e4 .before .before in
+    let e2 = e3 .before .before in
+    let e1 = e2 .before .before .before in
+    let a = e1 .before .before .before .before .args in
+    cause-out (a .s .now) (a .i) (a .j) (a .work) (a .out) (a .records .now) (accepted e1) (carrier-in e2) (task-in e3) (records-good e4) (enough e5)
+    (omega (arith, e5 .before .byte-at2 .ensures .0, c .if6 .taken))
 
 returns-7 : tie.Need-returns-7
-returns-7 c = cause-none (c .before .before .before .before .before .before .before .before .before .before .before .before .before .before .before .args .s .now) (c .before .before .before .before .before .before .before .before .before .before .before .before .before .before .before .args .i) (c .before .before .before .before .before .before .before .before .before .before .before .before .before .before .before .args .j) (c .before .before .before .before .before .before .before .before .before .before .before .before .before .before .before .args .work) (c .before .before .before .before .before .before .before .before .before .before .before .before .before .before .before .args .out) (c .before .before .before .before .before .before .before .before .before .before .before .before .before .before .before .args .records .now) (sym (c .before .before .before .before .before .before .before .before .before .before .before .before .cause .ensures) ∙ c .before .before .before .before .before .before .before .before .before .before .before .if1 .left) (omega (arith, c .before .before .before .before .before .before .before .before .before .before .byte-at .ensures .0, c .before .before .before .before .before .before .before .before .if2 .left)) (omega (arith, c .before .before .before .before .before .before .before .before .before .before .byte-at .ensures .0, c .before .before .before .before .before .before .if3 .left)) (sym (c .before .before .before .before .before .good-records .ensures) ∙ not-false _ (c .before .before .before .before .if4 .left)) (omega (arith, c .before .before .before .workspace .ensures .0 (sym (c .before .before .before .before .before .before .before .before .before .before .before .before .cause .ensures) ∙ c .before .before .before .before .before .before .before .before .before .before .before .if1 .left), c .before .before .if5 .left)) (omega (arith, c .before .byte-at2 .ensures .0, c .if6 .left))
+returns-7 c =
+    let e5 = c .before in
+    let e4 = e5 .before .before .before in
+    let e3 = e4 .before .before in
+    let e2 = e3 .before .before in
+    let e1 = e2 .before .before .before in
+    let a = e1 .before .before .before .before .args in
+    cause-none (a .s .now) (a .i) (a .j) (a .work) (a .out) (a .records .now) (accepted e1) (carrier-in e2) (task-in e3) (records-good e4) (enough e5)
+    (omega (arith, e5 .before .byte-at2 .ensures .0, c .if6 .left))
 
 pub refusal-spec : {M : Type 1} → statement M
 refusal-spec =
@@ -59,8 +123,8 @@ refusal-spec =
     good-records-requires
     returns-4
     workspace-requires
-    returns-5
     byte-at-requires-2
-    add-if6
+    add-words
+    returns-5
     returns-6
     returns-7)
