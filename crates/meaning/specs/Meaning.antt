@@ -148,7 +148,8 @@ pub record Plan (d : Sheet) (a : List ℕ) (ps : List (List ℕ)) (fs : List ℕ
 abbrev pub NoPlanBelow : Sheet → ℕ → Type 0
 NoPlanBelow d b = (a : List ℕ) (ps : List (List ℕ)) (fs : List ℕ) → Plan d a ps fs → b ≤ sum fs
 
--- Demand 3, of one answer: a plan is one of least flowtime; none means that there is no plan; the bound of spent is below every plan
+-- Demand 3, of one answer: a plan is one of least flowtime; none means that there is no plan; no plan's flowtime is below the bound of
+-- spent
 abbrev pub Right : Sheet → Answer (List ℕ) → Type 0
 Right d (plan a ps f n b) = ((fs : List ℕ) × Plan d a ps fs × (sum fs ≡ f)) × (b ≡ f) × NoPlanBelow d f
 Right d (noPlan n) = (a : List ℕ) (ps : List (List ℕ)) (fs : List ℕ) → ¬ Plan d a ps fs

@@ -14,6 +14,6 @@ module _ {Path Constraint : Type 0} (w : Problem Path Constraint) (r : Rules Pat
   best (noPlan n) h = h
   best (spent n b) h = h
 
-  -- The exact search answers: with a plan of least flowtime; with none, and there is no plan; or spent, with a bound below every plan
+  -- The exact search answers: with a plan of least flowtime; with none, and there is no plan; or spent, with a bound that no plan's flowtime is below
   pub exact-best : Laws w r → (limit : ℕ) → 1 ≤ limit → (a : Answer Path) × (searched w limit cheapest ≡ some a) × Best w r a
   exact-best L limit room = let u = searched-right w r L limit _≡_ cheapest cheapest-picks room in (u .0, u .1, best (u .0) (u .2))
