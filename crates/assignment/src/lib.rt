@@ -1,6 +1,4 @@
-// The least assignment of tasks to carriers, with dual prices that prove it least; and, in order, the parts that the search takes
-// the assignments from.
-pub mod order;
+// The least assignment of tasks to carriers, with dual prices that prove it least.
 mod price;
 
 use deck::AssignmentAnswer;
@@ -37,7 +35,7 @@ pub fn least_assignment(m: u8, table: &[u16]) -> AssignmentAnswer
         return without(AssignmentKind::Refused(causes::BAD_COUNT));
     }
     let t = tables::filled(n, table);
-    let f = order::first_priced(n, &t);
+    let f = candidates::first_priced(n, &t);
     let first = f.candidate;
     if !first.found {
         return without(AssignmentKind::NoAssignment);

@@ -27,8 +27,8 @@ use Rattle.optimal.specs.Demand.{RightCall}
 use Rattle.optimal.proofs.Written.{call-right}
 use Rattle.prices.specs.Square.{copied}
 use Rattle.sheet.proofs.Accepted.{limit-range, count-range}
-use Rattle.assignment.specs.Answers.{candidateFor}
-use Rattle.assignment.specs.declared.order.Candidate.{Candidate}
+use Rattle.candidates.specs.Candidates.{candidateFor}
+use Rattle.candidates.specs.declared.Candidate.{Candidate}
 use Rattle.records.specs.Record.{fieldsAt, tasksIn, bytes}
 use Rattle.nodes.specs.Nodes.{pathsIn}
 use Rattle.nodes.proofs.Kept.{stored-none}

@@ -1,7 +1,6 @@
 // The search for a plan of least flowtime, from sheet to answer: nodes in the lent workspace, cheapest first.
 mod turns;
 
-use assignment::order;
 use deck::Carrier;
 use deck::SearchAnswer;
 use deck::SearchKind;
@@ -122,7 +121,7 @@ fn accepted(s: &[u8], work: &mut [u32], out: &mut [u16]) -> SearchAnswer
     let mask = mask::mask_of(s);
     let starts = starts_of(s);
     let t = finishes::table(s, &mask);
-    let first = order::first(sheet::byte_at(s, 2), &t);
+    let first = candidates::first(sheet::byte_at(s, 2), &t);
     if !first.found {
         return without(SearchKind::NoPlan, 0, 0);
     }

@@ -10,7 +10,8 @@ use Rattle.deck.specs.Assignments.{leastAssignment}
 use Rattle.deck.specs.Calls.{AssignmentCall, assignmentCause}
 use Rattle.assignment.specs.Answers.{Answered}
 use Rattle.tables.proofs.Cells.{square-low}
-use Rattle.assignment.proofs.Calls.{count-low, count-high, wrong-size, accepted, refused, none-found, least-found, not-found, found}
+use Rattle.candidates.proofs.Slots.{not-found, found}
+use Rattle.assignment.proofs.Calls.{count-low, count-high, wrong-size, accepted, refused, none-found, least-found}
 use Rattle.assignment.proofs.least_assignment.Statement.{statement}
 use Rattle.assignment.proofs.least_assignment.Tie as tie
 
