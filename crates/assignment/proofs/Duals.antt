@@ -25,7 +25,7 @@ use Rattle.prices.proofs.First.{weigh-open, light-unbarred, unbarred-cost, unba
 use Rattle.hungarian.specs.Solving.{Solved}
 use Rattle.tables.specs.Copies.{Weighed}
 use Rattle.assignment.specs.Answers.{priceOf, Chosen, Serves, Tightly, Answered}
-use Rattle.assignment.proofs.Firsts.{weigh-low, copied-at, copied-words, weights-cost, solved-assignment, solved-tight}
+use Rattle.candidates.proofs.Firsts.{weigh-low, copied-at, copied-words, weights-cost, solved-assignment, solved-tight}
 use Rattle.assignment.proofs.Priced.{price-small, dual-le, dual-tight}
 
 module _ (m : ℕ) (small : m ≤ 12) (t w u v task carrier : List ℕ) (W : Weighed m false t w) (S : Solved m w m u v task carrier) where

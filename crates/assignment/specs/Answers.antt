@@ -1,36 +1,18 @@
--- What the calls of this crate answer: weights of entries, a part's first assignment with its sum, the order of two of these.
--- Assumes nothing.
-use Prim.Native.Nat.{ℕ, zero, suc, _+_, _≤_, _<_}
+-- What the call answers: the whole answer, and prices that serve it. Assumes nothing.
+use Prim.Native.Nat.{ℕ, _+_, _≤_, _<_}
 use mathlib.Core.Path.{_≡_}
-use mathlib.Core.Bool.{Bool, true, false, cond}
+use mathlib.Core.Bool.{Bool, cond}
 use mathlib.Core.List.{List}
-use mathlib.Core.Option.{Option, none, some}
 use lib.ListN.{getD, replicate}
 use lib.IntN.{ℤ, pos, negℤ, _+ℤ_}
 use lib.Signed.{mag}
-use lib.Dec.{ltb}
-use Rattle.deck.specs.Assignments.{entryAt, sumOf, leastAssignment}
-use Rattle.deck.specs.Calls.{taskList, noTasks, assignmentKind, assignmentTasks, PricesOf}
+use Rattle.deck.specs.Assignments.{entryAt, leastAssignment}
+use Rattle.deck.specs.Calls.{noTasks, assignmentKind, assignmentTasks, PricesOf}
 use Rattle.deck.specs.declared.AssignmentKind.{AssignmentKind}
 use Rattle.deck.specs.declared.AssignmentAnswer.{AssignmentAnswer}
 use Rattle.meaning.specs.Meaning.{_at_}
 use Rattle.prices.specs.Weights.{weigh}
 use Rattle.prices.specs.Square.{cell}
-use Rattle.assignment.specs.declared.order.Candidate.{Candidate}
-
--- an assignment with its sum and the list of 12, or none
-unfoldable pub candidateFor : ℕ → List ℕ → Option (List ℕ) → Candidate
-candidateFor m table none = record { found = false; sum = 0; tasks = noTasks }
-candidateFor m table (some a) = record { found = true; sum = sumOf m table a; tasks = taskList a }
-
--- of the n numbers from index i on, the first that differ are less in a than in b
-unfoldable pub lessFrom : ℕ → ℕ → (a b : List ℕ) → Bool
-lessFrom zero i a b = false
-lessFrom (suc n) i a b = cond (ltb (a at i) (b at i)) true (cond (ltb (b at i) (a at i)) false (lessFrom n (suc i) a b))
-
--- by sum, then by list
-abbrev pub earlier : Candidate → Candidate → Bool
-earlier s t = cond (ltb (s .sum) (t .sum)) true (cond (ltb (t .sum) (s .sum)) false (lessFrom 12 0 (s .tasks) (t .tasks)))
 
 -- the whole answer for an accepted table
 pub record Answered (m : ℕ) (table : List ℕ) (r : AssignmentAnswer) : Type 0 where

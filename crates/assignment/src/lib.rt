@@ -1,6 +1,4 @@
-// The least assignment of tasks to carriers, with dual prices that prove it least; and, in order, the parts that the search takes
-// the assignments from.
-pub mod order;
+// The least assignment of tasks to carriers, with dual prices that prove it least.
 mod price;
 
 use deck::AssignmentAnswer;
@@ -8,7 +6,9 @@ use deck::AssignmentKind;
 use deck::causes;
 ghost use mathlib.Core.Path.{_≡_};
 ghost use Rattle.deck.specs.Calls.{AssignmentCall};
+ghost use Rattle.deck.specs.Numbers.{assignmentNumbers};
 ghost use Rattle.assignment.specs.Answers.{withoutTasks};
+ghost use Rattle.assignment.specs.Meant.{Meant};
 
 // The answer without an assignment: no task, and all prices 0.
 fn without(kind: AssignmentKind) -> AssignmentAnswer
@@ -24,7 +24,8 @@ fn without(kind: AssignmentKind) -> AssignmentAnswer
 
 // The least assignment of a table of m by m entries, 65535 barred: the first by sum, then by list, with prices.
 pub fn least_assignment(m: u8, table: &[u16]) -> AssignmentAnswer
-    ensures { λ r. ⌜ AssignmentCall m (now (table .entry)) r ⌝ }
+    ensures call { λ r. ⌜ AssignmentCall m (now (table .entry)) (assignmentNumbers (r .kind)) (r .tasks) (r .rows) (r .columns) ⌝ }
+    ensures meant { λ r. ⌜ Meant m (now (table .entry)) (r .kind) (r .tasks) ⌝ }
 {
     let n = tables::wide(m);
     if n < 1 {
@@ -37,7 +38,7 @@ pub fn least_assignment(m: u8, table: &[u16]) -> AssignmentAnswer
         return without(AssignmentKind::Refused(causes::BAD_COUNT));
     }
     let t = tables::filled(n, table);
-    let f = order::first_priced(n, &t);
+    let f = candidates::first_priced(n, &t);
     let first = f.candidate;
     if !first.found {
         return without(AssignmentKind::NoAssignment);

@@ -1,7 +1,6 @@
 // The assignments in order, from the slots of at most 8 roots, 12 to a root.
 use crate::list;
-use assignment::order;
-use assignment::order::Candidate;
+use candidates::Candidate;
 use libc::STDOUT_FILENO;
 ghost use Prim.Native.Nat.{_≤_, _<_};
 
@@ -29,7 +28,7 @@ fn slot(m: usize, t: &[u16; 144], root: Root, j: usize) -> Candidate
     if 12 <= tasks[j] {
         return nothing();
     }
-    order::slot_candidate(m, t, &tasks, root.row, &closed, j)
+    candidates::slot_candidate(m, t, &tasks, root.row, &closed, j)
 }
 
 // The root of the candidate c of a root's slot j.
@@ -42,7 +41,7 @@ fn next_root(root: Root, c: Candidate, j: usize) -> Root
         return root;
     }
     let next = c.tasks;
-    let k = order::slot_closed(&tasks, root.row, &closed, j);
+    let k = candidates::slot_closed(&tasks, root.row, &closed, j);
     Root {
         tasks: next,
         row: j,
@@ -75,7 +74,7 @@ fn better(slots: [Candidate; 96], b: usize, k: usize) -> usize
         return k;
     }
     let d = slots[b];
-    if order::comes_before(c, d) { k } else { b }
+    if candidates::comes_before(c, d) { k } else { b }
 }
 
 // The number of the slot whose candidate comes first, 96 where there is none.
@@ -108,7 +107,7 @@ pub fn in_order(m: u8, table: &[u16], most: usize) {
 fn run(m: usize, t: &[u16; 144], most: usize)
     requires { ⌜ m ≤ 12 ⌝ }
 {
-    let first = order::first(m, t);
+    let first = candidates::first(m, t);
     let tasks = first.tasks;
     let root = Root {
         tasks: tasks,

@@ -1,5 +1,4 @@
 // The assignments in order: the first of them as lists, by the records of roots in the lent workspace.
-use assignment::order;
 use deck::causes;
 use roots::Choice;
 ghost use mathlib.Core.Path.{_≡_};
@@ -32,7 +31,7 @@ fn take_first(work: &mut [u32], m: usize, t: &[u16; 144], out: &mut [u8]) -> boo
     requires { ⌜ (0 < m) × (m ≤ 12) × (512 ≤ length (now work)) × (length (now out) ≡ 12) ⌝ }
     ensures { λ r. ⌜ Taken m (copied m (now (t .entry))) (now (work .exit)) 0 (assignmentsInOrder m (copied m (now (t .entry)))) (now (out .entry)) (now (out .exit)) r ⌝ }
 {
-    let first = order::first(m, t);
+    let first = candidates::first(m, t);
     if !first.found {
         return false;
     }

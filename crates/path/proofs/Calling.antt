@@ -1,23 +1,31 @@
--- The whole call: what no cause says, and the record of the call. Assumes nothing.
+-- The whole call: what no cause says, and what the call ensures. Assumes nothing.
 use Prim.Native.Nat.{ℕ, zero, suc, _≤_, _<_}
-use mathlib.Core.Path.{_≡_, refl}
+use mathlib.Core.Path.{_≡_, refl, sym, ap}
 use mathlib.Core.Logic.{_≢_}
 use mathlib.Core.Bool.{_&&_}
 use mathlib.Core.List.{List}
-use lib.ListN.{length}
+use mathlib.Core.Option.{Option, none, some}
+use native.Mathlib.Omega.{arith}
+use lib.ListN.{length, drop}
+use lib.Seq.{take-at}
 use lib.Dec.{T, leb, ltb, leb→le, ltb→lt}
+use Rattle.deck.specs.Causes.{badNumber, badRecords}
 use Rattle.deck.specs.Sheet.{read, countOf, horizonOf, cause, unless}
 use Rattle.deck.specs.Paths.{leastPath}
 use Rattle.deck.specs.Calls.{constraintsOf, goodRecords, workspaceFor, workspaceCause, pathFound, pathWritten, pathCause, pathAnswerFor, pathOutputFor, PathCall}
+use Rattle.deck.specs.Numbers.{pathNumbers}
 use Rattle.deck.specs.declared.Carrier.{Carrier}
 use Rattle.deck.specs.declared.Task.{Task}
+use Rattle.deck.specs.declared.Constraint.{Constraint}
 use Rattle.deck.specs.declared.PathAnswer.{PathAnswer}
 use Rattle.deck.specs.declared.PathAnswer.the-variants.{Refused}
-use Rattle.meaning.proofs.Accepted.{first-none, passes-last}
+use Rattle.meaning.proofs.Accepted.{first-none, passes-last, accepted-start}
+use Rattle.meaning.proofs.LeastPath.{LeastMeant, least-path-meant}
 use Rattle.kernel.proofs.Both.{and-left, and-right}
 use Rattle.bars.specs.Padded.{MaskOf}
 use Rattle.passes.specs.Ready.{Ready, roomFor}
 use Rattle.by_passes.proofs.Finding.{enough-room}
+use Rattle.path.specs.Meant.{Meant}
 
 module _ (s : List ℕ) (i : Carrier) (j : Task) (work out : ℕ) (rs : List ℕ) (ok : pathCause s i j work out rs ≡ 0) where
   -- what no cause says
@@ -33,8 +41,8 @@ module _ (s : List ℕ) (i : Carrier) (j : Task) (work out : ℕ) (rs : List ℕ
   unfolding pathCause
   no-cause =
       let c1 = first-none (cause s) ok in
-      let c2 = first-none (unless (ltb (i .0) (countOf s) && ltb (j .0) (countOf s)) 8) (c1 .1) in
-      let c3 = first-none (unless (goodRecords (read s) rs) 9) (c2 .1) in
+      let c2 = first-none (unless (ltb (i .0) (countOf s) && ltb (j .0) (countOf s)) badNumber) (c1 .1) in
+      let c3 = first-none (unless (goodRecords (read s) rs) badRecords) (c2 .1) in
       let c4 = first-none (workspaceCause (read s) work) (c3 .1) in
       let b = passes-last (ltb (i .0) (countOf s) && ltb (j .0) (countOf s)) 7 (c2 .0) in
       record {
@@ -55,22 +63,43 @@ module _ (s : List ℕ) (i : Carrier) (j : Task) (work out : ℕ) (rs : List ℕ
   room-of mask m = enough-room s i j mask rs (ready-of mask m) work (no-cause .room)
 
 module _ (s : List ℕ) (i : Carrier) (j : Task) (work out rs : List ℕ) where
-  -- a refused call
-  pub call-refused : (c : ℕ) → c ≡ pathCause s i j (length work) (length out) rs → c ≢ 0 → PathCall s i j work out rs (Refused c) work out
-  unfolding pathAnswerFor pathOutputFor
-  call-refused c e n = record { answered = go c e n; written = stays c e n; refused-work = λ _. refl }
-    where
-      go : (c : ℕ) → c ≡ pathCause s i j (length work) (length out) rs → c ≢ 0 → Refused c ≡ pathAnswerFor (pathCause s i j (length work) (length out) rs) (read s) i j rs
-      go zero e n = absurd (n refl)
-      go (suc c) e n = rw (← e) refl
+  abbrev c : ℕ
+  c = pathCause s i j (length work) (length out) rs
 
-      stays : (c : ℕ) → c ≡ pathCause s i j (length work) (length out) rs → c ≢ 0 → out ≡ pathOutputFor (pathCause s i j (length work) (length out) rs) (read s) i j rs out
-      stays zero e n = absurd (n refl)
-      stays (suc c) e n = rw (← e) refl
+  abbrev cs : List Constraint
+  cs = constraintsOf rs
+
+  -- the definition's answer and output are those that are meant
+  meant : Meant s i j work out rs (pathAnswerFor c (read s) i j rs) (pathOutputFor c (read s) i j rs out)
+  unfolding pathAnswerFor pathOutputFor pathFound pathWritten
+  meant = by-cause c refl
+    where
+      found : c ≡ 0 → (o : Option (List ℕ)) → LeastMeant (read s) i j cs o → Meant s i j work out rs (pathFound (read s) j o) (pathWritten o out)
+      found z none l = (z, l)
+      found z (some p) l = (z, rw (take-at p (drop (length p) out) (suc (horizonOf s)) (l .under .path .long)) l)
+
+      by-cause : (n : ℕ) → n ≡ c → Meant s i j work out rs (pathAnswerFor n (read s) i j rs) (pathOutputFor n (read s) i j rs out)
+      by-cause zero e =
+          let ok = no-cause s i j (length work) (length out) rs (sym e) in
+          found (sym e) (leastPath (read s) i j cs) (least-path-meant (read s) i j cs (accepted-start s (ok .accepted) (i .0) (ok .carrier-in)))
+      by-cause (suc n) e = (e, λ z. omega arith)
+
+  -- what the call ensures of its answer and of the words afterwards
+  abbrev pub Ensured : PathAnswer → (work′ out′ : List ℕ) → Type 0
+  Ensured answer work′ out′ = PathCall s i j work out rs (pathNumbers answer) work′ out′ × Meant s i j work out rs answer out′
+
+  ensured : (answer : PathAnswer) (work′ out′ : List ℕ) → answer ≡ pathAnswerFor c (read s) i j rs → out′ ≡ pathOutputFor c (read s) i j rs out
+      → (c ≢ 0 → work′ ≡ work) → Ensured answer work′ out′
+  ensured answer work′ out′ a w k = (record { answered = ap pathNumbers a; written = w; refused-work = k }, rw (a, w) meant)
+
+  -- a refused call
+  pub call-refused : (n : ℕ) → n ≡ c → n ≢ 0 → Ensured (Refused n) work out
+  unfolding pathAnswerFor pathOutputFor
+  call-refused zero e n = absurd (n refl)
+  call-refused (suc n) e k = ensured (Refused (suc n)) work out (rw (← e) refl) (rw (← e) refl) (λ _. refl)
 
   -- an accepted call
-  pub call-answered : pathCause s i j (length work) (length out) rs ≡ 0 → (answer : PathAnswer) (work′ out′ : List ℕ)
-      → (answer ≡ pathFound (read s) j (leastPath (read s) i j (constraintsOf rs))) × (out′ ≡ pathWritten (leastPath (read s) i j (constraintsOf rs)) out)
-      → PathCall s i j work out rs answer work′ out′
+  pub call-answered : c ≡ 0 → (answer : PathAnswer) (work′ out′ : List ℕ)
+      → (answer ≡ pathFound (read s) j (leastPath (read s) i j cs)) × (out′ ≡ pathWritten (leastPath (read s) i j cs) out) → Ensured answer work′ out′
   unfolding pathAnswerFor pathOutputFor
-  call-answered ok answer work′ out′ h = record { answered = rw ok (h .0); written = rw ok (h .1); refused-work = λ n. absurd (n ok) }
+  call-answered ok answer work′ out′ h = ensured answer work′ out′ (rw ok (h .0)) (rw ok (h .1)) (λ n. absurd (n ok))

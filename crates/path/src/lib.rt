@@ -3,6 +3,8 @@ use deck::Carrier;
 use deck::PathAnswer;
 use deck::Task;
 ghost use Rattle.deck.specs.Calls.{PathCall};
+ghost use Rattle.deck.specs.Numbers.{pathNumbers};
+ghost use Rattle.path.specs.Meant.{Meant};
 
 // One carrier's least path under a list of records of five words: kind, carrier, u, v, t. A refused call writes nothing.
 pub fn least_path(
@@ -13,7 +15,8 @@ pub fn least_path(
     out: &mut [u16],
     records: &[u16],
 ) -> PathAnswer
-    ensures { λ r. ⌜ PathCall (now (s .entry)) i j (now (work .entry)) (now (out .entry)) (now (records .entry)) r (now (work .exit)) (now (out .exit)) ⌝ }
+    ensures call { λ r. ⌜ PathCall (now (s .entry)) i j (now (work .entry)) (now (out .entry)) (now (records .entry)) (pathNumbers r) (now (work .exit)) (now (out .exit)) ⌝ }
+    ensures meant { λ r. ⌜ Meant (now (s .entry)) i j (now (work .entry)) (now (out .entry)) (now (records .entry)) r (now (out .exit)) ⌝ }
 {
     let c = path_causes::refusal(s, i, j, work.len(), out.len(), records);
     if c != 0 {

@@ -19,8 +19,8 @@ use Rattle.meaning.specs.Meaning.{_at_, Assignment}
 use Rattle.meaning.proofs.Fuel.{plan-answers}
 use Rattle.prices.specs.Square.{copied}
 use Rattle.sheet.proofs.Accepted.{limit-range, count-range}
-use Rattle.assignment.specs.Answers.{candidateFor}
-use Rattle.assignment.specs.declared.order.Candidate.{Candidate}
+use Rattle.candidates.specs.Candidates.{candidateFor}
+use Rattle.candidates.specs.declared.Candidate.{Candidate}
 use Rattle.records.specs.Record.{fieldsAt, tasksIn, bytes}
 use Rattle.nodes.specs.Nodes.{pathsIn}
 use Rattle.nodes.proofs.Kept.{stored-none}

@@ -1,5 +1,4 @@
 // The search of an accepted sheet with room enough: the first root, the turns, and the answer for their end.
-use assignment::order;
 use deck::Carrier;
 use deck::SearchAnswer;
 use deck::SearchKind;
@@ -118,7 +117,7 @@ pub fn accepted(s: &[u8], work: &mut [u32], out: &mut [u16]) -> SearchAnswer
     let mask = mask::mask_of(s);
     let starts = starts_of(s);
     let t = finishes::table(s, &mask);
-    let first = order::first(sheet::byte_at(s, 2), &t);
+    let first = candidates::first(sheet::byte_at(s, 2), &t);
     if !first.found {
         return without(SearchKind::NoPlan, 0, 0);
     }

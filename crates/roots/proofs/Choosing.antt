@@ -7,8 +7,8 @@ use native.Mathlib.Omega.{arith}
 use lib.Dec.{eqb}
 use borrow.Author.Tests.{lt-ltb, le-ltb}
 use Rattle.deck.specs.Lists.{countFrom}
-use Rattle.assignment.specs.Answers.{earlier}
-use Rattle.assignment.specs.declared.order.Candidate.{Candidate}
+use Rattle.candidates.specs.Candidates.{earlier}
+use Rattle.candidates.specs.declared.Candidate.{Candidate}
 use Rattle.records.specs.Record.{fieldsAt, flagIn, sumIn, slotTasksIn, bytes}
 use Rattle.roots.specs.Choices.{slotBefore, firstOf, betterOf, overSlots}
 use Rattle.roots.specs.declared.Choice.{Choice}

@@ -20,8 +20,8 @@ use Rattle.prices.proofs.First.{less-trans}
 use Rattle.prices.proofs.Growth.{lower}
 use Rattle.partition.specs.Parts.{Slot}
 use Rattle.partition.proofs.Candidates.{Candidate, candidate-meant}
-use Rattle.assignment.specs.Answers.{candidateFor}
-use Rattle.assignment.proofs.Orders.{says-earlier}
+use Rattle.candidates.specs.Candidates.{candidateFor}
+use Rattle.candidates.proofs.Orders.{says-earlier}
 use Rattle.records.specs.Record.{fieldsAt, rowIn, flagIn, slotTasksIn, bytes}
 use Rattle.records.proofs.Words.{bytes-same}
 use Rattle.roots.specs.Slots.{slotOf, slotHere, rootSlots, slotsAt, PartsHold}

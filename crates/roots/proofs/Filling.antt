@@ -15,8 +15,8 @@ use Rattle.meaning.specs.Meaning.{_at_}
 use Rattle.prices.proofs.Growth.{lower}
 use Rattle.partition.specs.Parts.{slotPart, candidate}
 use Rattle.partition.proofs.Candidates.{Candidate as CandidateIs, candidate-meant}
-use Rattle.assignment.specs.Answers.{candidateFor}
-use Rattle.assignment.specs.declared.order.Candidate.{Candidate}
+use Rattle.candidates.specs.Candidates.{candidateFor}
+use Rattle.candidates.specs.declared.Candidate.{Candidate}
 use Rattle.records.specs.Cut.{part, put}
 use Rattle.records.specs.Record.{fields, fieldsAt, tasksIn, rowIn, closedIn, slotIn, bytes, withSlot, rootFields, Wrote}
 use Rattle.records.proofs.Cuts.{length-part, part-here, part-behind, part-before}

@@ -6,8 +6,8 @@ use mathlib.Core.List.{List, [], _∷_, List·Memᴰ as Mem}
 use lib.ListN.{set}
 use lib.Dec.{eqb, ltb}
 use Rattle.partition.specs.Parts.{slotPart, Slot, Best}
-use Rattle.assignment.specs.Answers.{lessFrom}
-use Rattle.assignment.specs.declared.order.Candidate.{Candidate}
+use Rattle.candidates.specs.Candidates.{lessFrom}
+use Rattle.candidates.specs.declared.Candidate.{Candidate}
 use Rattle.records.specs.Record.{fieldsAt, tasksIn, rowIn, closedIn, slotIn, flagIn, sumIn, slotTasksIn, bytes, withSlot, Wrote}
 use Rattle.roots.specs.Slots.{slotOf, PartsHold}
 use Rattle.roots.specs.declared.Choice.{Choice}

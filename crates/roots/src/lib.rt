@@ -1,8 +1,7 @@
 // The assignments that remain, in the records of the roots: Murty's parts, each in a slot of the root that it was split from, with
 // its first assignment. The next assignment in order is the first of these; a tournament tree over the numbers of the nodes says
 // which slot has it.
-use assignment::order;
-use assignment::order::Candidate;
+use candidates::Candidate;
 ghost use mathlib.Core.Path.{_≡_};
 ghost use mathlib.Core.List.{List};
 ghost use mathlib.Core.Option.{some};
@@ -65,7 +64,7 @@ fn slot_before(work: &[u32], n: usize, j: usize, p: usize, q: usize) -> bool
     if t < s {
         return false;
     }
-    order::comes_before(listed(work, n, j), listed(work, p, q))
+    candidates::comes_before(listed(work, n, j), listed(work, p, q))
 }
 
 // The first of slot j of root n and a choice.
@@ -279,7 +278,7 @@ pub fn take_slot(work: &mut [u32], n: usize, j: usize) -> RootPart
     RootPart {
         tasks: first,
         row: j,
-        closed: order::slot_closed(&tasks, row, &closed, j),
+        closed: candidates::slot_closed(&tasks, row, &closed, j),
     }
 }
 
@@ -305,7 +304,7 @@ pub fn fill_slots(work: &mut [u32], m: usize, t: &[u16; 144], n: usize)
     let row = records::row_of(work, n);
     let closed = records::closed_of(work, n);
     for j in row..m {
-        let c = order::slot_candidate(m, t, &tasks, row, &closed, j);
+        let c = candidates::slot_candidate(m, t, &tasks, row, &closed, j);
         store_slot(work, n, j, c);
     }
 }

@@ -7,10 +7,11 @@ use native.Mathlib.Omega.{arith}
 use borrow.Author.Needs.{needs}
 use borrow.Author.Tests.{not-true, not-false}
 use Rattle.deck.specs.Assignments.{leastAssignment}
-use Rattle.deck.specs.Calls.{AssignmentCall, assignmentCause}
+use Rattle.deck.specs.Calls.{assignmentCause}
 use Rattle.assignment.specs.Answers.{Answered}
 use Rattle.tables.proofs.Cells.{square-low}
-use Rattle.assignment.proofs.Calls.{count-low, count-high, wrong-size, accepted, refused, none-found, least-found, not-found, found}
+use Rattle.candidates.proofs.Slots.{not-found, found}
+use Rattle.assignment.proofs.Calls.{Ensured, count-low, count-high, wrong-size, accepted, refused, none-found, least-found}
 use Rattle.assignment.proofs.least_assignment.Statement.{statement}
 use Rattle.assignment.proofs.least_assignment.Tie as tie
 
@@ -24,7 +25,7 @@ returns : tie.Need-returns
 returns c =
     let w = c .before .before in
     let table = w .before .before .args .table .now in
-    subst (λ (n : ℕ). AssignmentCall n table (c .without .result)) (w .wide .ensures .0)
+    subst (λ (n : ℕ). Ensured n table (c .without .result)) (w .wide .ensures .0)
     (refused (w .wide .result) table (c .without .result) (c .without .ensures) (count-low _ _ (c .before .if1 .taken)))
 
 without-requires-2 : tie.Need-without-requires-2
@@ -34,7 +35,7 @@ returns-2 : tie.Need-returns-2
 returns-2 c =
     let w = c .before .before .before in
     let table = w .before .before .args .table .now in
-    subst (λ (n : ℕ). AssignmentCall n table (c .without2 .result)) (w .wide .ensures .0)
+    subst (λ (n : ℕ). Ensured n table (c .without2 .result)) (w .wide .ensures .0)
     (refused (w .wide .result) table (c .without2 .result) (c .without2 .ensures) (count-high _ _ (c .before .if2 .taken)))
 
 mul-if3 : tie.Need-mul-if3
@@ -47,7 +48,7 @@ returns-3 : tie.Need-returns-3
 returns-3 c =
     let w = c .before .before .before .before in
     let table = w .before .before .args .table .now in
-    subst (λ (n : ℕ). AssignmentCall n table (c .without3 .result)) (w .wide .ensures .0)
+    subst (λ (n : ℕ). Ensured n table (c .without3 .result)) (w .wide .ensures .0)
     (refused (w .wide .result) table (c .without3 .result) (c .without3 .ensures)
     (wrong-size _ _ (c .before .before .before .if1 .left) (c .before .before .if2 .left) (c .before .if3 .taken)))
 
@@ -72,7 +73,7 @@ returns-4 c =
     let w = f .before .before .before .before in
     let n = w .wide .result in
     let table = w .before .before .args .table .now in
-    subst (λ (k : ℕ). AssignmentCall k table (c .without4 .result)) (w .wide .ensures .0)
+    subst (λ (k : ℕ). Ensured k table (c .without4 .result)) (w .wide .ensures .0)
     (none-found n table (c .without4 .result) (c .without4 .ensures) (passed f)
     (subst (λ (l : List ℕ). leastAssignment n l ≡ none) (f .filled .ensures) (not-found n _ _ (g .first-priced .result .candidate) (g .first-priced .ensures) (not-true _ (c .before .if4 .taken)))))
 
@@ -88,7 +89,7 @@ returns-5 c =
     let w = f .before .before .before .before in
     let n = w .wide .result in
     let table = w .before .before .args .table .now in
-    subst (λ (k : ℕ). AssignmentCall k table (c .priced .result)) (w .wide .ensures .0)
+    subst (λ (k : ℕ). Ensured k table (c .priced .result)) (w .wide .ensures .0)
     (least-found n table (c .priced .result) (passed f) (subst (λ (l : List ℕ). Answered n l (c .priced .result)) (f .filled .ensures) (c .priced .ensures)))
 
 pub least-assignment-spec : {M : Type 1} → statement M

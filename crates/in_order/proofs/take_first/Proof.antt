@@ -5,7 +5,7 @@ use mathlib.Core.List.{List}
 use borrow.Author.Tests.{not-true, not-false}
 use Rattle.deck.specs.Assignments.{assignmentsInOrder}
 use Rattle.prices.specs.Square.{copied}
-use Rattle.assignment.proofs.Calls.{not-found, found}
+use Rattle.candidates.proofs.Slots.{not-found, found}
 use Rattle.roots.specs.Tournament.{NextTaken}
 use Rattle.in_order.proofs.Progress.{none-first}
 use borrow.Author.Needs.{needs}

@@ -2,7 +2,7 @@
 use borrow.Author.Needs.{needs}
 use Rattle.hungarian.proofs.Rounds.{nothing-solved}
 use mathlib.Core.Bool.{false}
-use Rattle.assignment.proofs.Firsts.{weights-light}
+use Rattle.candidates.proofs.Firsts.{weights-light}
 use Rattle.assignment.proofs.Duals.{solved-serves}
 use Rattle.assignment.proofs.price.solved.Statement.{statement}
 use Rattle.assignment.proofs.price.solved.Tie as tie

@@ -1,11 +1,11 @@
--- `assignment::order::list_before` meets its contract. Assumes nothing.
+-- `candidates::list_before` meets its contract. Assumes nothing.
 use Prim.Native.Nat.{_≤_, _-_}
 use mathlib.Core.Path.{_≡_, refl, sym, _∙_}
 use native.Mathlib.Omega.{arith}
-use Rattle.assignment.specs.Answers.{lessFrom}
-use Rattle.assignment.proofs.Orders.{less-yes, less-no, less-on, less-end}
-use Rattle.assignment.proofs.order.list_before.Statement.{statement}
-use Rattle.assignment.proofs.order.list_before.Tie as tie
+use Rattle.candidates.specs.Candidates.{lessFrom}
+use Rattle.candidates.proofs.Orders.{less-yes, less-no, less-on, less-end}
+use Rattle.candidates.proofs.list_before.Statement.{statement}
+use Rattle.candidates.proofs.list_before.Tie as tie
 
 abbrev Inv-loop : tie.InvT-loop
 Inv-loop a b i₀ i = (i ≤ 12) × (lessFrom 12 0 a b ≡ lessFrom (12 - i) i a b)

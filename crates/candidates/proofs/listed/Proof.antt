@@ -1,9 +1,9 @@
--- `assignment::order::listed` meets its contract. Assumes nothing.
+-- `candidates::listed` meets its contract. Assumes nothing.
 use Prim.Native.Nat.{_≤_, _-_}
 use native.Mathlib.Omega.{arith}
-use Rattle.assignment.proofs.Weighing.{Listed, listed-none, listed-more, listed-all}
-use Rattle.assignment.proofs.order.listed.Statement.{statement}
-use Rattle.assignment.proofs.order.listed.Tie as tie
+use Rattle.candidates.proofs.Weighing.{Listed, listed-none, listed-more, listed-all}
+use Rattle.candidates.proofs.listed.Statement.{statement}
+use Rattle.candidates.proofs.listed.Tie as tie
 
 abbrev Inv-loop : tie.InvT-loop
 Inv-loop m task tasks₀ i₀ tasks i = (i ≤ m) × Listed task i tasks

@@ -1,13 +1,13 @@
--- `assignment::order::total` meets its contract. Assumes nothing.
+-- `candidates::total` meets its contract. Assumes nothing.
 use Prim.Native.Nat.{ℕ, _≤_, _-_, _*_}
 use mathlib.Core.Path.{_≡_, refl, ap, _∙_}
 use native.Mathlib.Omega.{arith}
 use Rattle.prices.specs.Matching.{cost}
 use Rattle.prices.specs.Weights.{weigh}
 use Rattle.prices.specs.Square.{cell}
-use Rattle.assignment.proofs.Weighing.{cost-next}
-use Rattle.assignment.proofs.order.total.Statement.{statement}
-use Rattle.assignment.proofs.order.total.Tie as tie
+use Rattle.candidates.proofs.Weighing.{cost-next}
+use Rattle.candidates.proofs.total.Statement.{statement}
+use Rattle.candidates.proofs.total.Tie as tie
 
 abbrev Inv-loop : tie.InvT-loop
 Inv-loop m t task sum₀ i₀ sum i = (i ≤ m) × (sum ≡ cost i (λ i j. weigh (cell t i j)) task) × (sum ≤ 786409 * i)

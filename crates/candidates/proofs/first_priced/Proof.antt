@@ -1,4 +1,4 @@
--- `assignment::order::first_priced` meets its contract. Assumes nothing.
+-- `candidates::first_priced` meets its contract. Assumes nothing.
 use Prim.Native.Nat.{_%_}
 use mathlib.Core.Path.{_≡_, _∙_}
 use mathlib.Core.Bool.{true}
@@ -6,9 +6,9 @@ use native.Mathlib.Omega.{arith}
 use borrow.Author.Needs.{needs}
 use Rattle.hungarian.specs.Solving.{Solved}
 use Rattle.hungarian.proofs.Rounds.{nothing-solved}
-use Rattle.assignment.proofs.Firsts.{weights-light, tasks-low, first-none, first-some, candidate-none, candidate-some}
-use Rattle.assignment.proofs.order.first_priced.Statement.{statement}
-use Rattle.assignment.proofs.order.first_priced.Tie as tie
+use Rattle.candidates.proofs.Firsts.{weights-light, tasks-low, first-none, first-some, candidate-none, candidate-some}
+use Rattle.candidates.proofs.first_priced.Statement.{statement}
+use Rattle.candidates.proofs.first_priced.Tie as tie
 
 solved : (b : tie.After-solve) → let g = b .before .before .before .before .before .before in let o = b .solve .last .1 .1 in
     Solved (g .before .args .m) (g .weights .result) (g .before .args .m) (o .0) (o .1 .0) (o .1 .1 .0) (o .1 .1 .1 .0)

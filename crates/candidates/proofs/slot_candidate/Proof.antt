@@ -1,8 +1,8 @@
--- `assignment::order::slot_candidate` meets its contract. Assumes nothing.
+-- `candidates::slot_candidate` meets its contract. Assumes nothing.
 use borrow.Author.Needs.{needs}
-use Rattle.assignment.proofs.Calls.{slot-first}
-use Rattle.assignment.proofs.order.slot_candidate.Statement.{statement}
-use Rattle.assignment.proofs.order.slot_candidate.Tie as tie
+use Rattle.candidates.proofs.Slots.{slot-first}
+use Rattle.candidates.proofs.slot_candidate.Statement.{statement}
+use Rattle.candidates.proofs.slot_candidate.Tie as tie
 
 slot-closed-requires : tie.Need-slot-closed-requires
 slot-closed-requires c κs = search needs

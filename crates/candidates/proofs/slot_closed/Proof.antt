@@ -1,7 +1,7 @@
--- `assignment::order::slot_closed` meets its contract. Assumes nothing.
+-- `candidates::slot_closed` meets its contract. Assumes nothing.
 use borrow.Author.Needs.{needs}
-use Rattle.assignment.proofs.order.slot_closed.Statement.{statement}
-use Rattle.assignment.proofs.order.slot_closed.Tie as tie
+use Rattle.candidates.proofs.slot_closed.Statement.{statement}
+use Rattle.candidates.proofs.slot_closed.Tie as tie
 
 element-copy-out-wide : tie.Need-element-copy-out-wide
 element-copy-out-wide c = search needs

@@ -22,9 +22,9 @@ use Rattle.prices.proofs.Squares.{square-at}
 use Rattle.prices.proofs.Duality.{OnTight, tight-least}
 use Rattle.prices.proofs.First.{weigh-open, weigh-barred, light-unbarred, unbarred-cost, merged-none, merged-first}
 use Rattle.hungarian.specs.Solving.{Light, Solved}
-use Rattle.assignment.specs.declared.order.Candidate.{Candidate}
+use Rattle.candidates.specs.declared.Candidate.{Candidate}
 use Rattle.tables.specs.Copies.{weightOf, Weighed}
-use Rattle.assignment.specs.Answers.{candidateFor}
+use Rattle.candidates.specs.Candidates.{candidateFor}
 use Rattle.tables.proofs.Places.{places-right}
 
 pub weigh-low : (e : ℕ) → e ≤ barred → weigh e ≤ heavy

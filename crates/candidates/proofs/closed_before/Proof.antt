@@ -1,7 +1,7 @@
--- `assignment::order::closed_before` meets its contract. Assumes nothing.
+-- `candidates::closed_before` meets its contract. Assumes nothing.
 use borrow.Author.Tests.{eq-eqb, ne-eqb}
-use Rattle.assignment.proofs.order.closed_before.Statement.{statement}
-use Rattle.assignment.proofs.order.closed_before.Tie as tie
+use Rattle.candidates.proofs.closed_before.Statement.{statement}
+use Rattle.candidates.proofs.closed_before.Tie as tie
 
 returns : tie.Need-returns
 returns c = rw (eq-eqb _ _ (c .before .if1 .taken))

@@ -16,7 +16,7 @@ use Rattle.deck.specs.Calls.{taskList}
 use Rattle.meaning.specs.Meaning.{_at_, StrictlyBefore, Less}
 use Rattle.meaning.proofs.Tests.{Says}
 use Rattle.prices.proofs.Growth.{lower}
-use Rattle.assignment.specs.Answers.{lessFrom, earlier, candidateFor}
+use Rattle.candidates.specs.Candidates.{lessFrom, earlier, candidateFor}
 
 -- a comparison of two numbers, and of what follows where they are equal
 module _ (x y : ℕ) (b : Bool) where

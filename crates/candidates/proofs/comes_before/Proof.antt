@@ -1,8 +1,8 @@
--- `assignment::order::comes_before` meets its contract. Assumes nothing.
+-- `candidates::comes_before` meets its contract. Assumes nothing.
 use borrow.Author.Needs.{needs}
 use borrow.Author.Tests.{lt-ltb, le-ltb}
-use Rattle.assignment.proofs.order.comes_before.Statement.{statement}
-use Rattle.assignment.proofs.order.comes_before.Tie as tie
+use Rattle.candidates.proofs.comes_before.Statement.{statement}
+use Rattle.candidates.proofs.comes_before.Tie as tie
 
 returns : tie.Need-returns
 returns c = rw (lt-ltb _ _ (c .if1 .taken))

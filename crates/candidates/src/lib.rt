@@ -1,4 +1,4 @@
-// The first assignment in order, of a table or of a part.
+// The first assignment in order of a table or of a part, and the order of two of these.
 use deck::Carrier;
 use deck::Task;
 use tables::HEAVY;
@@ -18,7 +18,7 @@ ghost use Rattle.prices.specs.Matching.{cost};
 ghost use Rattle.prices.specs.Weights.{weigh as weighOf};
 ghost use Rattle.prices.specs.Square.{cell, copied};
 ghost use Rattle.partition.specs.Parts.{candidate, noneClosed, slotPart};
-ghost use Rattle.assignment.specs.Answers.{candidateFor, lessFrom, earlier};
+ghost use Rattle.candidates.specs.Candidates.{candidateFor, lessFrom, earlier};
 
 // The first assignment in order with its sum, or none.
 pub struct Candidate {

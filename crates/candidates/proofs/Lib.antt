@@ -1,0 +1,4 @@
+pub mod Weighing
+pub mod Firsts
+pub mod Orders
+pub mod Slots
