@@ -94,25 +94,25 @@ module _ (w u v : List ℕ) (columns : List Bool) (total i : ℕ) (near₀ from�
 
   pub relaxed-more : (n : ℕ) (near from : List ℕ) (l : Label) (s : ℕ) → n < 12 → s ≡ slackOf w u v i n
       → l ≡ nearerOf (marked columns n) (label (near at n) (from at n)) total s i → RelaxedTo w u v columns total i near₀ from₀ n near from
-      → RelaxedTo w u v columns total i near₀ from₀ (n + 1) (set near n (l .near)) (set from n (l .from))
+      → RelaxedTo w u v columns total i near₀ from₀ (n + 1) (set near n (l .near)) (set from n (l .from .0))
   relaxed-more n near from l s h q e R = record {
     done = λ k g. ⊎-elim (λ z. rw z here) (λ z. there k z) (eq-or-lt-of-le (le-of-suc-le-suc (rw add-one at g)));
     left = λ k g. let o = R .left k (omega arith) in
-        (getD-set-other near n k (l .near) 0 (omega arith) ∙ o .0, getD-set-other from n k (l .from) 0 (omega arith) ∙ o .1);
-    sizes = (length-set near n (l .near) ∙ R .sizes .0, length-set from n (l .from) ∙ R .sizes .1);
+        (getD-set-other near n k (l .near) 0 (omega arith) ∙ o .0, getD-set-other from n k (l .from .0) 0 (omega arith) ∙ o .1);
+    sizes = (length-set near n (l .near) ∙ R .sizes .0, length-set from n (l .from .0) ∙ R .sizes .1);
   }
     where
-      here : label (set near n (l .near) at n) (set from n (l .from) at n)
+      here : label (set near n (l .near) at n) (set from n (l .from .0) at n)
           ≡ nearerOf (marked columns n) (label (near₀ at n) (from₀ at n)) total (slackOf w u v i n) i
       here =
           let o = R .left n (le-refl n) in
-          ap₂ label (getD-set-same near n (l .near) 0 (rw (R .sizes .0) h)) (getD-set-same from n (l .from) 0 (rw (R .sizes .1) h))
+          ap₂ label (getD-set-same near n (l .near) 0 (rw (R .sizes .0) h)) (getD-set-same from n (l .from .0) 0 (rw (R .sizes .1) h))
           ∙ e ∙ rw (o .0, o .1, q)
 
-      there : (k : ℕ) → k < n → label (set near n (l .near) at k) (set from n (l .from) at k)
+      there : (k : ℕ) → k < n → label (set near n (l .near) at k) (set from n (l .from .0) at k)
           ≡ nearerOf (marked columns k) (label (near₀ at k) (from₀ at k)) total (slackOf w u v i k) i
       there k z =
-          ap₂ label (getD-set-other near n k (l .near) 0 (omega arith)) (getD-set-other from n k (l .from) 0 (omega arith)) ∙ R .done k z
+          ap₂ label (getD-set-other near n k (l .near) 0 (omega arith)) (getD-set-other from n k (l .from .0) 0 (omega arith)) ∙ R .done k z
 
   pub relaxed-all : (m n : ℕ) (near from : List ℕ) → m ≤ n → RelaxedTo w u v columns total i near₀ from₀ n near from → Relaxed m w u v columns total i near₀ from₀ near from
   relaxed-all m n near from h R = record { each = λ k l. R .done k (omega arith); sizes = R .sizes }
@@ -122,16 +122,16 @@ module _ (m : ℕ) (w u v : List ℕ) (columns : List Bool) (total i : ℕ) (nea
   pub label-kept : (k : ℕ) → k < m → marked columns k ≡ true → (near′ at k ≡ near at k) × (from′ at k ≡ from at k)
   label-kept k l h =
       let e = R .each k l ∙ sym (nearer-marked (marked columns k) (label (near at k) (from at k)) total (slackOf w u v i k) i h) in
-      (ap (λ (x : Label). x .near) e, ap (λ (x : Label). x .from) e)
+      (ap (λ (x : Label). x .near) e, ap (λ (x : Label). x .from .0) e)
 
   pub label-moved : (k : ℕ) → k < m → marked columns k ≡ false
       → ((near′ at k ≡ near at k) × (from′ at k ≡ from at k) × (near at k - total ≤ slackOf w u v i k))
       ⊎ ((near′ at k ≡ total + slackOf w u v i k) × (from′ at k ≡ i) × (slackOf w u v i k < near at k - total))
   label-moved k l h = ⊎-elim
       (λ g. let e = R .each k l ∙ sym (nearer-less (marked columns k) (label (near at k) (from at k)) total s i h g) in
-      inr (ap (λ (x : Label). x .near) e, ap (λ (x : Label). x .from) e, g))
+      inr (ap (λ (x : Label). x .near) e, ap (λ (x : Label). x .from .0) e, g))
       (λ g. let e = R .each k l ∙ sym (nearer-kept (marked columns k) (label (near at k) (from at k)) total s i h g) in
-      inl (ap (λ (x : Label). x .near) e, ap (λ (x : Label). x .from) e, g)) (lower s (near at k - total))
+      inl (ap (λ (x : Label). x .near) e, ap (λ (x : Label). x .from .0) e, g)) (lower s (near at k - total))
     where
       s : ℕ
       s = slackOf w u v i k

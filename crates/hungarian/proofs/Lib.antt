@@ -1,3 +1,4 @@
+pub mod Sides
 pub mod Labels
 pub mod Gains
 pub mod Rounds

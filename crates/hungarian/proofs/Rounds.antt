@@ -17,7 +17,7 @@ use Rattle.prices.specs.Matching.{Put, Raised, LeastSlack, Matches, Tree}
 use Rattle.prices.specs.Square.{cell}
 use Rattle.prices.proofs.Growth.{lower, marked-or-not, same-prices, same-from, bounded, some-outside, rows-fit, columns-fit, raised-matching, joined, last-tree, turn-begins, turn-ends, turn-next}
 use Rattle.hungarian.specs.declared.Edge.{Edge}
-use Rattle.hungarian.specs.Solving.{marked, unmarked, farthest, slackOf, Slacks, Relaxed, Closest, inTree, wayTo, gainOf, rowGain, rowPrice, columnPrice, Light, Solved, Grown, Way, Reaches}
+use Rattle.hungarian.specs.Solving.{byCarrier, byTask, marked, unmarked, farthest, slackOf, Slacks, Relaxed, Closest, inTree, wayTo, gainOf, rowGain, rowPrice, columnPrice, Light, Solved, Grown, Way, Reaches}
 use Rattle.hungarian.proofs.Labels.{label-kept, label-moved}
 use Rattle.hungarian.proofs.Gains.{put-set, unmarked-set, tree-root, tree-column, tree-none, tree-row, way-root, way-column, gain-in, gain-out}
 
@@ -442,7 +442,8 @@ module _ (m : ℕ) (w : List ℕ) (r : ℕ) (small : m ≤ 12) (low : r < m) whe
           }
 
 -- before the first round: no price, no pair
-pub nothing-solved : (m : ℕ) (w : List ℕ) → m ≤ 12 → Solved m w 0 (replicate 12 0) (replicate 12 0) (replicate 12 12) (replicate 12 12)
+pub nothing-solved : (m : ℕ) (w : List ℕ) → m ≤ 12 → Solved m w 0 (byCarrier (replicate 24 0)) (byTask (replicate 24 0)) (byCarrier (replicate 24 12)) (byTask (replicate 24 12))
+unfolding byCarrier byTask
 nothing-solved m w small = record {
   matches = record {
     feasible = λ i j li lj. rw (at-zeros i (omega arith)) zero-le;

@@ -5,14 +5,21 @@ use mathlib.Core.Path.{_≡_}
 use mathlib.Core.Logic.{_⊎_, _≢_}
 use mathlib.Core.Bool.{Bool, true, false, cond}
 use mathlib.Core.List.{List, [], _∷_}
-use lib.ListN.{length, getD}
+use lib.ListN.{length, getD, take, drop}
 use lib.Dec.{ltb, eqb}
-use Rattle.deck.specs.Sheet.{task}
+use Rattle.deck.specs.Sheet.{carrier, task}
 use Rattle.meaning.specs.Meaning.{_at_}
 use Rattle.prices.specs.Matching.{AtMost, Bounded, Matches, Tree, Turning}
 use Rattle.prices.specs.Square.{cell}
 use Rattle.hungarian.specs.declared.Edge.{Edge}
 use Rattle.hungarian.specs.declared.Label.{Label}
+
+-- an array of 24: a number for each carrier, then one for each task
+unfoldable pub byCarrier : List ℕ → List ℕ
+byCarrier l = take 12 l
+
+unfoldable pub byTask : List ℕ → List ℕ
+byTask l = drop 12 l
 
 -- a mark of an array
 abbrev pub marked : List Bool → ℕ → Bool
@@ -35,7 +42,7 @@ Slacks m w u v = (i j : ℕ) → i < m → j < m → (u at i ≤ cell w i j + v 
 
 -- the label of a column that is not marked after a way over the slack s from row i, which has the length total
 abbrev pub label : ℕ → ℕ → Label
-label near from = record { near = near; from = from }
+label near from = record { near = near; from = carrier from }
 
 unfoldable pub nearerOf : Bool → Label → ℕ → ℕ → ℕ → Label
 nearerOf mark l total s i = cond mark l (cond (ltb s (l .near - total)) (label (total + s) i) l)

@@ -1,6 +1,6 @@
 -- Arrays of 144 numbers, twelve to a row, filled row by row; the tables of which they are working copies. Assumes nothing.
 use Prim.Native.Nat.{ℕ, zero, suc, _+_, _*_, _≤_, _<_}
-use mathlib.Core.Path.{_≡_, refl, sym, ap, _∙_}
+use mathlib.Core.Path.{_≡_, refl, sym, ap, subst, _∙_}
 use mathlib.Core.Logic.{⊎-elim, _≢_}
 use mathlib.Core.List.{List, [], _∷_}
 use native.Mathlib.Nat.{eq-or-lt-of-le, le-of-suc-le-suc, not-suc-le-zero, mul-le-mul-right, suc-mul}
@@ -21,13 +21,16 @@ module _ (f : ℕ → ℕ → ℕ) (i : ℕ) where
   pub row-none : (w : List ℕ) → length w ≡ 144 → RowTo f i 0 w w
   row-none w e = record { size = e; before = λ k l. refl; done = λ j l. absurd (not-suc-le-zero l) }
 
-  pub row-more : (j : ℕ) (w₀ w : List ℕ) (x : ℕ) → i < 12 → j < 12 → x ≡ f i j → RowTo f i j w₀ w → RowTo f i (j + 1) w₀ (set w (i * 12 + j) x)
-  row-more j w₀ w x li lj e R = record {
+  row-set : (j : ℕ) (w₀ w : List ℕ) (x : ℕ) → i < 12 → j < 12 → x ≡ f i j → RowTo f i j w₀ w → RowTo f i (j + 1) w₀ (set w (i * 12 + j) x)
+  row-set j w₀ w x li lj e R = record {
     size = length-set w (i * 12 + j) x ∙ R .size;
     before = λ k l. getD-set-other w (i * 12 + j) k x 0 (omega arith) ∙ R .before k l;
     done = λ k l. ⊎-elim (λ q. rw q (getD-set-same w (i * 12 + j) x 0 (omega (arith, R .size)) ∙ e)) (λ g. getD-set-other w (i * 12 + j) (i * 12 + k) x 0 (omega arith) ∙ R .done k g)
         (eq-or-lt-of-le (le-of-suc-le-suc (rw add-one at l)));
   }
+
+  pub row-more : (j : ℕ) (w₀ w : List ℕ) (x : ℕ) (w′ : List ℕ) → i < 12 → j < 12 → x ≡ f i j → w′ ≡ set w (i * 12 + j) x → RowTo f i j w₀ w → RowTo f i (j + 1) w₀ w′
+  row-more j w₀ w x w′ li lj e q R = subst (RowTo f i (j + 1) w₀) (sym q) (row-set j w₀ w x li lj e R)
 
 -- THE ROWS below n
 pub record RowsTo (f : ℕ → ℕ → ℕ) (m n : ℕ) (w : List ℕ) : Type 0 where

@@ -3,16 +3,17 @@ use Prim.Native.Nat.{ℕ, _≤_, _-_}
 use mathlib.Core.Path.{_≡_, sym, subst}
 use native.Mathlib.Omega.{arith}
 use Rattle.meaning.specs.Meaning.{_at_}
-use Rattle.hungarian.specs.Solving.{Closest}
+use Rattle.hungarian.specs.Solving.{byCarrier, byTask, Closest}
 use Rattle.hungarian.proofs.Labels.{RelaxedTo, relaxed-none, relaxed-more, relaxed-all, closest-none, closest-more}
 use Rattle.hungarian.proofs.relax.Statement.{statement}
 use Rattle.hungarian.proofs.relax.Tie as tie
 
 abbrev Inv-loop : tie.InvT-loop
-Inv-loop m w u v columns total i near₀ from₀ e₀ j₀ near from e j = (j ≤ m) × RelaxedTo w u v columns total i near₀ from₀ j near from × Closest columns near j e
+Inv-loop m w prices columns total i near₀ from₀ e₀ j₀ near from e j =
+    (j ≤ m) × RelaxedTo w (byCarrier prices) (byTask prices) columns total (i .0) near₀ from₀ j near from × Closest columns near j e
 
 abbrev μ-loop : tie.MeasureT-loop
-μ-loop m w u v columns total i near₀ from₀ e₀ j₀ near from e j = m - j
+μ-loop m w prices columns total i near₀ from₀ e₀ j₀ near from e j = m - j
 
 loop-holds : tie.Need-loop-holds Inv-loop μ-loop
 loop-holds c = (omega arith, relaxed-none _ _ _ _ _ _ _ _ (c .pre .0 .3) (c .pre .0 .4), closest-none _ _)
@@ -21,7 +22,7 @@ slack-requires : tie.Need-slack-requires Inv-loop μ-loop
 slack-requires c κs =
     let l = c .before in
     let s = l .before in
-    ((omega arith, omega arith), s .pre .0 .2 (s .args .i) (l .loop .j) (s .pre .0 .1) (c .loop-test .taken))
+    ((omega arith, omega arith), s .pre .0 .2 (s .args .i .0) (l .loop .j) (s .pre .0 .1) (c .loop-test .taken))
 
 element-copy-out-nearer : tie.Need-element-copy-out-nearer Inv-loop μ-loop
 element-copy-out-nearer c = omega arith
@@ -76,7 +77,7 @@ loop-again c =
     let a = l .before .args in
     let j = l .loop .j in (
       omega arith,
-      relaxed-more (a .w .now) (a .u .now) (a .v .now) (a .columns .now) (a .total) (a .i) (a .near .now) (a .from .now) j (l .loop .near) (l .loop .from)
+      relaxed-more (a .w .now) (byCarrier (a .prices .now)) (byTask (a .prices .now)) (a .columns .now) (a .total) (a .i .0) (a .near .now) (a .from .now) j (l .loop .near) (l .loop .from)
           (g .nearer .result) (f .slack .result) (omega arith) (f .slack .ensures) (g .nearer .ensures) (l .loop .inv .1),
       subst (Closest (a .columns .now) _ _) (sym (c .closer .ensures)) (closest-more (a .columns .now) (l .loop .near) j (g .nearer .result .near) (l .loop .e) (omega (arith, l .loop .inv .1 .sizes .0)) (l .loop .inv .2)),
     )
@@ -86,7 +87,7 @@ returns c =
     let l = c .before .loop in
     let a = c .before .before .args in
     let e : l .j ≡ a .m = omega arith in (
-      relaxed-all (a .w .now) (a .u .now) (a .v .now) (a .columns .now) (a .total) (a .i) (a .near .now) (a .from .now) (a .m) (l .j) (l .near) (l .from) (omega arith) (l .inv .1),
+      relaxed-all (a .w .now) (byCarrier (a .prices .now)) (byTask (a .prices .now)) (a .columns .now) (a .total) (a .i .0) (a .near .now) (a .from .now) (a .m) (l .j) (l .near) (l .from) (omega arith) (l .inv .1),
       subst (λ (n : ℕ). Closest (a .columns .now) (l .near) n (l .e)) e (l .inv .2),
     )
 

@@ -8,7 +8,7 @@ use Rattle.tables.proofs.part.Statement.{statement}
 use Rattle.tables.proofs.part.Tie as tie
 
 abbrev Inv-loop : tie.InvT-loop
-Inv-loop m table tasks row closed t₀ i₀ t i = (i ≤ m) × RowsTo (partCell (partAt row tasks closed) table) m i t
+Inv-loop m table tasks row closed t₀ i₀ t i = (i ≤ m) × RowsTo (partCell (partAt (row .0) tasks closed) table) m i t
 
 abbrev μ-loop : tie.MeasureT-loop
 μ-loop m table tasks row closed t₀ i₀ t i = m - i
@@ -34,7 +34,7 @@ loop-again c =
     let s = c .before .before .before .before in
     let a = s .args in (
       omega arith,
-      rows-more (partCell (partAt (a .row) (a .tasks .now) (a .closed .now)) (a .table .now)) (a .m) (l .i) (l .t) (c .part-row .last .1 .1 .1 .1 .1 .1 .0) (s .pre .0) (l .inv .1)
+      rows-more (partCell (partAt (a .row .0) (a .tasks .now) (a .closed .now)) (a .table .now)) (a .m) (l .i) (l .t) (c .part-row .last .1 .1 .1 .1 .1 .1 .0) (s .pre .0) (l .inv .1)
           (c .part-row .ensures),
     )
 
@@ -43,7 +43,7 @@ returns c =
     let l = c .before .loop in
     let s = c .before .before in
     let a = s .args in
-    copied-part (a .m) (a .table .now) (l .t) (partAt (a .row) (a .tasks .now) (a .closed .now)) (s .pre .0) (λ i j li lj. l .inv .1 .done i j (omega arith) lj)
+    copied-part (a .m) (a .table .now) (l .t) (partAt (a .row .0) (a .tasks .now) (a .closed .now)) (s .pre .0) (λ i j li lj. l .inv .1 .done i j (omega arith) lj)
 
 pub part-spec : {M : Type 1} → statement M
 part-spec =

@@ -1,14 +1,15 @@
 -- `tables::part_row` meets its contract. Assumes nothing.
 use Prim.Native.Nat.{ℕ, _-_, _≤_}
-use mathlib.Core.Path.{_≡_, subst}
+use mathlib.Core.Path.{_≡_, ap, subst, _∙_}
 use native.Mathlib.Omega.{arith}
+use Rattle.partition.specs.Parts.{partEntry}
 use Rattle.tables.specs.Copies.{RowTo, partAt, partCell}
 use Rattle.tables.proofs.Cells.{row-none, row-more}
 use Rattle.tables.proofs.part_row.Statement.{statement}
 use Rattle.tables.proofs.part_row.Tie as tie
 
 abbrev Inv-loop : tie.InvT-loop
-Inv-loop m table tasks row closed i t₀ j₀ t j = (j ≤ m) × RowTo (partCell (partAt row tasks closed) table) i j t₀ t
+Inv-loop m table tasks row closed i t₀ j₀ t j = (j ≤ m) × RowTo (partCell (partAt (row .0) tasks closed) table) (i .0) j t₀ t
 
 abbrev μ-loop : tie.MeasureT-loop
 μ-loop m table tasks row closed i t₀ j₀ t j = m - j
@@ -16,32 +17,14 @@ abbrev μ-loop : tie.MeasureT-loop
 loop-holds : tie.Need-loop-holds Inv-loop μ-loop
 loop-holds c = (omega arith, row-none _ _ _ (c .pre .3))
 
-mul-part-entry : tie.Need-mul-part-entry Inv-loop μ-loop
-mul-part-entry c = omega arith
-
-add-part-entry : tie.Need-add-part-entry Inv-loop μ-loop
-add-part-entry c = omega arith
-
-mul-part-entry-2 : tie.Need-mul-part-entry-2 Inv-loop μ-loop
-mul-part-entry-2 c = omega arith
-
-element-copy-out-part-entry : tie.Need-element-copy-out-part-entry Inv-loop μ-loop
-element-copy-out-part-entry c = omega arith
+entry-requires : tie.Need-entry-requires Inv-loop μ-loop
+entry-requires c κs = (omega arith, omega arith)
 
 part-entry-requires : tie.Need-part-entry-requires Inv-loop μ-loop
 part-entry-requires c κs = (c .before .before .before .pre .1, omega arith)
 
-mul-t : tie.Need-mul-t Inv-loop μ-loop
-mul-t c = omega arith
-
-add-t : tie.Need-add-t Inv-loop μ-loop
-add-t c = omega arith
-
-mul-t-2 : tie.Need-mul-t-2 Inv-loop μ-loop
-mul-t-2 c = omega arith
-
-element-write-t : tie.Need-element-write-t Inv-loop μ-loop
-element-write-t c = omega arith
+put-requires : tie.Need-put-requires Inv-loop μ-loop
+put-requires c κs = (omega arith, omega arith)
 
 add-j : tie.Need-add-j Inv-loop μ-loop
 add-j c = omega arith
@@ -51,11 +34,12 @@ loop-less c = omega arith
 
 loop-again : tie.Need-loop-again Inv-loop μ-loop
 loop-again c =
-    let l = c .before .before .before in
-    let a = l .before .args in (
+    let l = c .before .before .before .before .before in
+    let a = l .before .args in
+    let q = partAt (a .row .0) (a .tasks .now) (a .closed .now) in (
       omega arith,
-      row-more (partCell (partAt (a .row) (a .tasks .now) (a .closed .now)) (a .table .now)) (a .i) (l .loop .j) (a .t .now) (l .loop .t) _ (omega arith) (omega arith)
-          (c .part-entry .ensures) (l .loop .inv .1),
+      row-more (partCell q (a .table .now)) (a .i .0) (l .loop .j) (a .t .now) (l .loop .t) _ _ (omega arith) (omega arith)
+          (c .before .before .part-entry .ensures ∙ ap (partEntry q (a .i .0) (l .loop .j)) (c .before .before .before .entry .ensures)) (c .put .ensures) (l .loop .inv .1),
     )
 
 returns : tie.Need-returns Inv-loop μ-loop
@@ -63,7 +47,7 @@ returns c =
     let l = c .before .loop in
     let a = c .before .before .args in
     let e : l .j ≡ a .m = omega arith in
-    subst (λ (n : ℕ). RowTo (partCell (partAt (a .row) (a .tasks .now) (a .closed .now)) (a .table .now)) (a .i) n (a .t .now) (l .t)) e (l .inv .1)
+    subst (λ (n : ℕ). RowTo (partCell (partAt (a .row .0) (a .tasks .now) (a .closed .now)) (a .table .now)) (a .i .0) n (a .t .now) (l .t)) e (l .inv .1)
 
 pub part-row-spec : {M : Type 1} → statement M
 part-row-spec =
@@ -72,15 +56,9 @@ part-row-spec =
     Inv-loop
     μ-loop
     loop-holds
-    mul-part-entry
-    add-part-entry
-    mul-part-entry-2
-    element-copy-out-part-entry
+    entry-requires
     part-entry-requires
-    mul-t
-    add-t
-    mul-t-2
-    element-write-t
+    put-requires
     add-j
     loop-less
     loop-again
