@@ -30,8 +30,8 @@ took c st k turning =
     let pick = c .before .before .before .before .before .before .cheapest in
     let is = c .before .before .before .before .n .given .1 in
     record {
-      inside = subst (InRange (s .args .made)) is (pick .ensures .0);
       taken = pick-is (s .args .s .now) (s .pre .0 .0 .accepted) (s .args .work .now) (s .args .made) (s .args .latest) k st turning _ limit (pick .result) _ (pick .ensures .1) is;
+      inside = subst (InRange (s .args .made)) is (pick .ensures .0);
       is = c .close .ensures .0 ∙ ap (λ (b : ℕ). withKey b (c .before .before .before .before .n .given .0 .0) closedKey (s .args .work .now)) limit;
     }
 
