@@ -15,6 +15,7 @@ ghost use lib.ListN.{length};
 ghost use Rattle.deck.specs.Sheet.{read, countOf, cause};
 ghost use Rattle.deck.specs.Assignments.{leastAssignment, tableOf};
 ghost use Rattle.deck.specs.Calls.{searchFound, searchWritten, searchCause, SearchCall, taskList, noTasks, workspaceFor, planWords};
+ghost use Rattle.deck.specs.Numbers.{searchNumbers};
 ghost use Rattle.deck.specs.Search.{Answer};
 ghost use Rattle.deck.specs.Planner.{planFor};
 ghost use Rattle.deck.specs.declared.SearchAnswer.{SearchAnswer};
@@ -153,7 +154,7 @@ fn refusal(s: &[u8], work: usize, out: usize) -> u8
 
 // THE CALL: for any sheet, workspace and output. A refused call changes no lent word.
 pub fn search(s: &[u8], work: &mut [u32], out: &mut [u16]) -> SearchAnswer
-    ensures call { λ r. ⌜ SearchCall (now (s .entry)) (now (work .entry)) (now (out .entry)) r (now (work .exit)) (now (out .exit)) ⌝ }
+    ensures call { λ r. ⌜ SearchCall (now (s .entry)) (now (work .entry)) (now (out .entry)) (searchNumbers r) (now (work .exit)) (now (out .exit)) ⌝ }
     ensures right { λ r. ⌜ RightCall (read (now (s .entry))) r (now (out .exit)) ⌝ }
 {
     let c = refusal(s, work.len(), out.len());
