@@ -5,21 +5,25 @@ use mathlib.Core.Logic.{_≢_}
 use mathlib.Core.List.{List, [], _∷_, _++_, append-assoc}
 use native.Mathlib.Numerals.{add-one}
 use native.Mathlib.Omega.{arith}
-use lib.ListN.{length, getD, set, take}
+use lib.ListN.{length, getD, set, take, replicate}
 use lib.Seq.{take-all, take-suc, take-suc-set}
+use lib.IntN.{ℤ}
 use borrow.Author.Tests.{lt-ltb, le-ltb}
 use Rattle.deck.specs.Sheet.{Stretch, read, cause, task, countOf, pairAt, taskPair, _orElse_}
 use Rattle.deck.specs.Calls.{workspaceFor, goalsCause, goalsCall, stretchFor, PathCall, AssignmentCall, SearchCall}
-use Rattle.deck.specs.Numbers.{pathNumbers, assignmentNumbers, kindNumbers, searchNumbers}
+use Rattle.deck.specs.Numbers.{refusal, pathNumbers, assignmentNumbers, kindNumbers, searchNumbers}
+use Rattle.deck.proofs.Told.{path-answered, assignment-answered, search-answered}
 use Rattle.deck.specs.declared.Carrier.{Carrier}
 use Rattle.deck.specs.declared.Task.{Task}
 use Rattle.deck.specs.declared.PathAnswer.{PathAnswer}
-use Rattle.deck.specs.declared.AssignmentAnswer.{AssignmentAnswer}
+use Rattle.deck.specs.declared.AssignmentKind.{AssignmentKind}
 use Rattle.deck.specs.declared.SearchKind.{SearchKind}
 use Rattle.deck.specs.declared.SearchKind.the-variants.{Plan, NoPlan, Spent, Refused as SearchRefused}
 use Rattle.deck.specs.declared.SearchAnswer.{SearchAnswer}
 use Rattle.meaning.specs.Meaning.{_at_}
 use Rattle.optimal.specs.Demand.{RightCall}
+use Rattle.path.specs.Meant.{Meant as PathMeant}
+use Rattle.assignment.specs.Meant.{Meant as AssignmentMeant}
 use Rattle.planner.specs.Small.{SmallPath, SmallAssignment, SmallSearch}
 use Rattle.planner.specs.Exports.{workspaceWanted, stretchNumbers, PathExport, AssignmentExport, InOrderExport, SearchExport}
 use Rattle.in_order.specs.Listed.{InOrderCall}
@@ -57,23 +61,34 @@ pub goals-at : {a b : ℕ} (s : List ℕ) (j : ℕ) → cause s ≡ 0 → j < co
 unfolding goalsCall goalsCause
 goals-at s j e h p q = rw (e, lt-ltb j (countOf s) h, p, q)
 
--- ONE CARRIER'S LEAST PATH
-module _ {s : List ℕ} {i : Carrier} {j : Task} {work out rs : List ℕ} {r : PathAnswer} {work′ out′ : List ℕ} where
-  pub path-answer-small : PathCall s i j work out rs r work′ out′ → SmallPath r
-  path-answer-small p = subst SmallPath (sym (p .answered)) (path-small s i j _ _ rs)
+-- A REFUSAL: its cause and zeros
+pub refused-numbers : (c x n : ℕ) → x ≡ c → 0 < c → (x ∷ replicate n 0) ≡ refusal c n
+refused-numbers zero x n e h = absurd (omega arith)
+refused-numbers (suc c) x n e h = rw e refl
 
-  pub path-exported : {numbers : List ℕ} → PathCall s i j work out rs r work′ out′ → numbers ≡ pathNumbers r
+-- ONE CARRIER'S LEAST PATH
+module _ {s : List ℕ} {i : Carrier} {j : Task} {work out rs : List ℕ} (r : PathAnswer) {work′ out′ : List ℕ} where
+  pub path-answer-small : PathCall s i j work out rs (pathNumbers r) work′ out′ → SmallPath r
+  path-answer-small p = subst SmallPath (sym (path-answered r p)) (path-small s i j _ _ rs)
+
+  pub path-exported : {numbers : List ℕ} → PathCall s i j work out rs (pathNumbers r) work′ out′ → PathMeant s i j work out rs r out′ → numbers ≡ pathNumbers r
       → PathExport s i j work out rs numbers work′ out′
-  path-exported p e = record { numbered = e ∙ ap pathNumbers (p .answered); written = p .written; refused-work = p .refused-work }
+  path-exported p q e = record {
+    call = subst (λ l. PathCall s i j work out rs l work′ out′) (sym e) p;
+    meant = subst (λ a. PathMeant s i j work out rs a out′) (path-answered r p) q;
+  }
 
 -- THE LEAST ASSIGNMENT
-module _ {m : ℕ} {table : List ℕ} {r : AssignmentAnswer} where
-  pub kind-small : AssignmentCall m table r → ((k : ℕ) → table at k < 65536) → SmallAssignment (r .kind)
-  kind-small a words = subst SmallAssignment (sym (a .kind)) (assignment-small m table words)
+module _ {m : ℕ} {table : List ℕ} (k : AssignmentKind) {tasks : List ℕ} {rows columns : List ℤ} where
+  pub kind-small : AssignmentCall m table (assignmentNumbers k) tasks rows columns → ((i : ℕ) → table at i < 65536) → SmallAssignment k
+  kind-small a words = subst SmallAssignment (sym (assignment-answered k a)) (assignment-small m table words)
 
-  pub assignment-exported : {numbers : List ℕ} → AssignmentCall m table r → numbers ≡ assignmentNumbers (r .kind)
-      → AssignmentExport m table (r .tasks) (r .rows) (r .columns) numbers
-  assignment-exported a e = record { numbered = e ∙ ap assignmentNumbers (a .kind); listed = a .tasks; priced = a .prices }
+  pub assignment-exported : {numbers : List ℕ} → AssignmentCall m table (assignmentNumbers k) tasks rows columns → AssignmentMeant m table k tasks
+      → numbers ≡ assignmentNumbers k → AssignmentExport m table tasks rows columns numbers
+  assignment-exported a q e = record {
+    call = subst (λ l. AssignmentCall m table l tasks rows columns) (sym e) a;
+    meant = subst (λ x. AssignmentMeant m table x tasks) (assignment-answered k a) q;
+  }
 
 -- THE ASSIGNMENTS IN ORDER
 pub in-order-exported : {m a b : ℕ} {table work lists work′ lists′ : List ℕ} {r : Count} → InOrderCall m table work lists r work′ lists′ → a ≡ r .cause → b ≡ r .count
@@ -107,15 +122,13 @@ pub search-numbered : (a : SearchAnswer) (first : List ℕ) (f n b : ℕ) → fi
     → (getD first 0 0 ∷ getD first 1 0 ∷ f ∷ n ∷ b ∷ a .tasks) ≡ searchNumbers a
 search-numbered a first f n b ek ef en eb = rw (ek, ef, en, eb) (kind-two (a .kind) (a .flowtime ∷ a .nodes ∷ a .bound ∷ a .tasks))
 
-module _ {s work out : List ℕ} {r : SearchAnswer} {work′ out′ : List ℕ} where
-  pub search-answer-small : SearchCall s work out r work′ out′ → SmallSearch r
-  search-answer-small p = subst SmallSearch (sym (p .answered)) (search-small s _ _)
+module _ {s work out : List ℕ} (r : SearchAnswer) {work′ out′ : List ℕ} where
+  pub search-answer-small : SearchCall s work out (searchNumbers r) work′ out′ → SmallSearch r
+  search-answer-small p = subst SmallSearch (sym (search-answered r p)) (search-small s _ _)
 
-  pub search-exported : {numbers : List ℕ} → SearchCall s work out r work′ out′ → RightCall (read s) r out′ → numbers ≡ searchNumbers r
+  pub search-exported : {numbers : List ℕ} → SearchCall s work out (searchNumbers r) work′ out′ → RightCall (read s) r out′ → numbers ≡ searchNumbers r
       → SearchExport s work out numbers work′ out′
   search-exported p q e = record {
-    numbered = e ∙ ap searchNumbers (p .answered);
-    written = p .written;
-    refused-work = p .refused-work;
-    right = subst (λ a. RightCall (read s) a out′) (p .answered) q;
+    call = subst (λ l. SearchCall s work out l work′ out′) (sym e) p;
+    right = subst (λ a. RightCall (read s) a out′) (search-answered r p) q;
   }

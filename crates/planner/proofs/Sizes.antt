@@ -1,7 +1,7 @@
 -- The values of every answer fit words of 32 bits. Assumes nothing.
 use Prim.Native.Nat.{ℕ, zero, suc, _+_, _*_, _≤_, _<_}
 use mathlib.Core.Path.{_≡_, refl, sym}
-use mathlib.Core.Logic.{⊎-elim}
+use mathlib.Core.Logic.{_≢_, ⊎-elim}
 use mathlib.Core.Bool.{Bool, true, false}
 use mathlib.Core.List.{List, [], _∷_, map}
 use mathlib.Core.Option.{Option, none, some}
@@ -10,12 +10,13 @@ use native.Mathlib.Omega.{arith}
 use lib.ListN.{length, getD}
 use lib.Dec.{leb}
 use Rattle.deck.specs.Lists.{below, sum, pieces}
-use Rattle.deck.specs.Sheet.{Sheet, read, cause, area, task, countOf, startOf}
+use Rattle.deck.specs.Sheet.{Sheet, read, cause, area, task, countOf, horizonOf, startOf}
 use Rattle.deck.specs.Paths.{leastPath, finishOf}
 use Rattle.deck.specs.Assignments.{leastAssignment, sumOf, entries, barred}
 use Rattle.deck.specs.Search.{Node, State, Selected, Turn, done, more, Answer, plan, noPlan, spent, cheapest, toMake, extend, expand, turnWith, turn, onward, run, searchFrom, searched}
 use Rattle.deck.specs.Planner.{problem, answerOr, planFor}
-use Rattle.deck.specs.Calls.{constraintsOf, pathCause, pathFound, pathAnswerFor, assignmentCause, leastFor, assignmentKind, searchCause, searchFound, searchAnswerFor, searchAnswer}
+use Rattle.deck.specs.Calls.{constraintsOf, pathCause, pathFound, pathAnswerFor, assignmentCause, leastFor, assignmentKind, searchCause, searchFound, searchAnswerFor, searchAnswer, checkCause, checkFound, checkFor, checkCall}
+use Rattle.deck.specs.PlanCheck.{planCheck}
 use Rattle.deck.specs.declared.Constraint.{Constraint}
 use Rattle.deck.specs.declared.Carrier.{Carrier}
 use Rattle.deck.specs.declared.Task.{Task}
@@ -70,7 +71,7 @@ module _ (s : List ℕ) (i : Carrier) (j : Task) (work out : ℕ) (rs : List ℕ
       go : (o : Option (List ℕ)) → LeastMeant (read s) i j (constraintsOf rs) o → SmallPath (pathFound (read s) j o)
       go none l = tt
       go (some p) l = omega (arith, l .under .path .finishes .rests .0, accepted-horizon s (ok .accepted))
-  path-small-for (suc c) e = tt
+  path-small-for (suc c) e = omega arith
 
   pub path-small : SmallPath (pathAnswerFor (pathCause s i j work out rs) (read s) i j rs)
   path-small = path-small-for (pathCause s i j work out rs) refl
@@ -100,10 +101,15 @@ module _ (m : ℕ) (table : List ℕ) (words : (k : ℕ) → table at k < 65536)
       go : (o : Option (List ℕ)) → Least m table o → SmallAssignment (assignmentKind zero m table o)
       go none l = tt
       go (some a) l = sum-of-small a (omega (arith, few (sym e), l .0 .0 .as-many))
-  assignment-small-for (suc c) e = tt
+  assignment-small-for (suc c) e = omega arith
 
   pub assignment-small : SmallAssignment (assignmentKind (assignmentCause m table) m table (leastFor (assignmentCause m table) m table))
   assignment-small = assignment-small-for (assignmentCause m table) refl
+
+-- a cause
+positive : (n : ℕ) → n ≢ 0 → 0 < n
+positive zero h = absurd (h refl)
+positive (suc n) h = omega arith
 
 -- THE FIRST COLLISION: a time of at most h, carriers below m, and places that are words of the paths
 module _ (m h : ℕ) (ws : List ℕ) (words : (k : ℕ) → ws at k < 65536) (short : h < 256) (low : m < 256) where
@@ -112,10 +118,10 @@ module _ (m h : ℕ) (ws : List ℕ) (words : (k : ℕ) → ws at k < 65536) (sh
 
   pub collision-small : (r : CollisionAnswer) → CollisionMeant m h ws r → SmallFound r
   collision-small (Found (Place t i j u)) l =
-      let c = l .collided in
+      let c = l .1 .collided in
       (omega (arith, c .2 .0), omega (arith, c .0, c .1), omega (arith, c .1), place-small (i .0) t u (omega (arith, c .0, c .1)) (c .2 .0) (c .2 .1))
   collision-small (Found (Move t i j u v)) l =
-      let c = l .collided in (
+      let c = l .1 .collided in (
         omega (arith, c .2 .0),
         omega (arith, c .0, c .1),
         omega (arith, c .1),
@@ -123,7 +129,7 @@ module _ (m h : ℕ) (ws : List ℕ) (words : (k : ℕ) → ws at k < 65536) (sh
         place-small (i .0) (suc t) v (omega (arith, c .0, c .1)) (c .2 .0) (c .2 .2),
       )
   collision-small NoCollision l = tt
-  collision-small (Refused n) l = tt
+  collision-small (Refused n) l = positive n (l .1)
 
 -- THE PLAN CHECK
 module _ (s tasks ws : List ℕ) where
@@ -138,10 +144,21 @@ module _ (s tasks ws : List ℕ) where
           let l : i < countOf s = omega (arith, p .plan .a-finish-each) in
           omega (arith, p .plan .paths i l .finishes .rests .0, accepted-horizon s (p .accepted))
 
-  pub check-small : (r : CheckAnswer) → CheckMeant s tasks ws r → SmallCheck r
-  check-small (Yes f) l = flow-small f (l f .0 refl)
-  check-small No l = tt
-  check-small (CheckRefused c) l = tt
+  -- a refusal has a cause
+  has-cause : (c n : ℕ) → CheckRefused c ≡ checkFor n (read s) tasks ws → 0 < c
+  unfolding checkFor checkFound
+  has-cause c zero e = go (planCheck (read s) tasks (pieces (countOf s) (suc (horizonOf s)) ws)) e
+    where
+      go : (o : Option ℕ) → CheckRefused c ≡ checkFound o → 0 < c
+      go none f = let z : _≡_ {A = ℕ} 0 1 = cc in absurd (omega arith)
+      go (some t) f = let z : _≡_ {A = ℕ} 0 1 = cc in absurd (omega arith)
+  has-cause c (suc n) e = let f : c ≡ suc n = cc in omega arith
+
+  pub check-small : (r : CheckAnswer) → r ≡ checkCall s tasks ws → CheckMeant s tasks ws r → SmallCheck r
+  unfolding checkCall
+  check-small (Yes f) e l = flow-small f (l f .0 refl)
+  check-small No e l = tt
+  check-small (CheckRefused c) e l = has-cause c (checkCause s ws) e
 
 -- THE SEARCH: a node costs a sum of finishes, and no more nodes are made than the limit
 abbrev SmallAnswer : Answer (List ℕ) → Type 0

@@ -7,8 +7,9 @@ use mathlib.Core.List.{List, [], _∷_}
 use lib.ListN.{length}
 use lib.IntN.{ℤ}
 use Rattle.deck.specs.Sheet.{Sheet, Stretch, read}
-use Rattle.deck.specs.Calls.{workspaceFor, pathCause, pathAnswerFor, pathOutputFor, assignmentCause, leastFor, assignmentKind, assignmentTasks, PricesOf, overwrite, searchCause, searchAnswer, searchOutput}
-use Rattle.deck.specs.Numbers.{pathNumbers, assignmentNumbers, searchNumbers}
+use Rattle.deck.specs.Calls.{workspaceFor, pathCause, pathAnswerFor, PathCall, assignmentCause, leastFor, assignmentKind, AssignmentCall, overwrite, searchAnswer, SearchCall}
+use Rattle.path.specs.Meant.{Meant as PathMeant}
+use Rattle.assignment.specs.Meant.{Meant as AssignmentMeant}
 use Rattle.in_order.specs.Listed.{listsOf, roomFor, listedFor}
 use Rattle.deck.specs.declared.Carrier.{Carrier}
 use Rattle.deck.specs.declared.Task.{Task}
@@ -22,18 +23,15 @@ workspaceWanted (suc c) d = 0
 abbrev pub stretchNumbers : Stretch → List ℕ
 stretchNumbers r = r .offset ∷ r .size ∷ []
 
--- one carrier's least path: of the words lent, and as they stand afterwards
+-- THE EXPORTED CALLS say what the calls say, with the numbers in place of the answer that they are those of. One carrier's least path
 pub record PathExport (s : List ℕ) (i : Carrier) (j : Task) (work out rs numbers work′ out′ : List ℕ) : Type 0 where
-  pub numbered : numbers ≡ pathNumbers (pathAnswerFor (pathCause s i j (length work) (length out) rs) (read s) i j rs)
-  pub written : out′ ≡ pathOutputFor (pathCause s i j (length work) (length out) rs) (read s) i j rs out
-  -- used workspace is free after an accepted call
-  pub refused-work : pathCause s i j (length work) (length out) rs ≢ 0 → work′ ≡ work
+  pub call : PathCall s i j work out rs numbers work′ out′
+  pub meant : PathMeant s i j work out rs (pathAnswerFor (pathCause s i j (length work) (length out) rs) (read s) i j rs) out′
 
--- the least assignment: the lists and the numbers afterwards
+-- the least assignment
 pub record AssignmentExport (m : ℕ) (table tasks : List ℕ) (rows columns : List ℤ) (numbers : List ℕ) : Type 0 where
-  pub numbered : numbers ≡ assignmentNumbers (assignmentKind (assignmentCause m table) m table (leastFor (assignmentCause m table) m table))
-  pub listed : tasks ≡ assignmentTasks (leastFor (assignmentCause m table) m table)
-  pub priced : PricesOf m table (leastFor (assignmentCause m table) m table) rows columns
+  pub call : AssignmentCall m table numbers tasks rows columns
+  pub meant : AssignmentMeant m table (assignmentKind (assignmentCause m table) m table (leastFor (assignmentCause m table) m table)) tasks
 
 -- the assignments in order: the lent words and the numbers afterwards
 pub record InOrderExport (m : ℕ) (table work lists work′ lists′ numbers : List ℕ) : Type 0 where
@@ -41,12 +39,9 @@ pub record InOrderExport (m : ℕ) (table work lists work′ lists′ numbers : 
   pub listed : lists′ ≡ overwrite (listsOf (listedFor (assignmentCause m table) (roomFor (length work) (length lists)) m table)) lists
   pub unwritten : assignmentCause m table ≢ 0 → work′ ≡ work
 
--- the search: of the words lent, and as they stand afterwards
+-- the search
 pub record SearchExport (s work out numbers work′ out′ : List ℕ) : Type 0 where
-  pub numbered : numbers ≡ searchNumbers (searchAnswer s (length work) (length out))
-  pub written : out′ ≡ searchOutput s (length work) out
-  -- used workspace is free after an accepted call
-  pub refused-work : searchCause s (length work) (length out) ≢ 0 → work′ ≡ work
-  -- demand 3, of the answer that the numbers are those of: a plan is one and has least flowtime, without a plan there is none, and no
+  pub call : SearchCall s work out numbers work′ out′
+  -- demand 3: a plan is one and has least flowtime, without a plan there is none, and no
   -- plan is below the bound of a spent search
   pub right : RightCall (read s) (searchAnswer s (length work) (length out)) out′

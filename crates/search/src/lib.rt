@@ -5,6 +5,7 @@ use deck::causes;
 ghost use mathlib.Core.Path.{_≡_};
 ghost use Rattle.deck.specs.Sheet.{read};
 ghost use Rattle.deck.specs.Calls.{searchCause, SearchCall};
+ghost use Rattle.deck.specs.Numbers.{searchNumbers};
 ghost use Rattle.optimal.specs.Demand.{RightCall};
 
 // The cause of a refusal, 0 for none.
@@ -28,7 +29,7 @@ fn refusal(s: &[u8], work: usize, out: usize) -> u8
 
 // THE CALL: for any sheet, workspace and output. A refused call changes no lent word.
 pub fn search(s: &[u8], work: &mut [u32], out: &mut [u16]) -> SearchAnswer
-    ensures call { λ r. ⌜ SearchCall (now (s .entry)) (now (work .entry)) (now (out .entry)) r (now (work .exit)) (now (out .exit)) ⌝ }
+    ensures call { λ r. ⌜ SearchCall (now (s .entry)) (now (work .entry)) (now (out .entry)) (searchNumbers r) (now (work .exit)) (now (out .exit)) ⌝ }
     ensures right { λ r. ⌜ RightCall (read (now (s .entry))) r (now (out .exit)) ⌝ }
 {
     let c = refusal(s, work.len(), out.len());

@@ -3,6 +3,7 @@ use mathlib.Core.Path.{_≡_, sym, subst, _∙_}
 use borrow.Author.Needs.{needs}
 use lib.ListN.{length}
 use Rattle.deck.specs.Calls.{searchCause, SearchCall}
+use Rattle.deck.specs.Numbers.{searchNumbers}
 use Rattle.deck.specs.declared.SearchAnswer.{SearchAnswer}
 use Rattle.search.proofs.Calling.{no-cause, call-refused, call-answered, right-of}
 use Rattle.search.proofs.search.Statement.{statement}
@@ -17,8 +18,8 @@ without-requires c κs = search needs
 returns : tie.Need-returns
 returns c =
     let args = c .before .before .before .before .before .before .args in
-    let call : SearchCall (args .s .now) (args .work .now) (args .out .now) (c .without .result) (args .work .now) (args .out .now) =
-    subst (λ (r : SearchAnswer). SearchCall (args .s .now) (args .work .now) (args .out .now) r (args .work .now) (args .out .now)) (sym (c .without .ensures))
+    let call : SearchCall (args .s .now) (args .work .now) (args .out .now) (searchNumbers (c .without .result)) (args .work .now) (args .out .now) =
+    subst (λ (r : SearchAnswer). SearchCall (args .s .now) (args .work .now) (args .out .now) (searchNumbers r) (args .work .now) (args .out .now)) (sym (c .without .ensures))
     (call-refused (args .s .now) (args .work .now) (args .out .now) (c .before .before .refusal .result) (c .before .before .refusal .ensures) (c .before .if1 .taken)) in
     (call, right-of (args .s .now) (args .work .now) (args .out .now) (c .without .result) (args .work .now) (args .out .now) call)
 

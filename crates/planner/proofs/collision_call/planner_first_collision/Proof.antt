@@ -13,10 +13,10 @@ collision-numbers-requires : tie.Need-collision-numbers-requires
 collision-numbers-requires c κs =
     let s = c .before .before in
     collision-small (s .args .m) (s .args .h) (s .args .paths .now) (λ k. omega (arith, c .before .shared-slice-known .given k)) (omega (arith, s .fits .h)) (omega (arith, s .fits .m))
-    (c .first-collision .result) (c .first-collision .ensures .1 .1)
+    (c .first-collision .result) (c .first-collision .ensures .1)
 
 returns : tie.Need-returns
-returns c = c .collision-numbers .ensures ∙ c .before .first-collision .ensures .1 .0
+returns c = c .collision-numbers .ensures ∙ c .before .first-collision .ensures .0
 
 pub planner-first-collision-spec : {M : Type 1} → statement M
 planner-first-collision-spec =

@@ -2,6 +2,7 @@
 use borrow.Author.Needs.{needs}
 use mathlib.Core.Path.{subst}
 use Rattle.planner.specs.Small.{SmallCheck}
+use Rattle.planner.proofs.Exported.{refused-numbers}
 use Rattle.planner.proofs.narrowing.check_numbers.Statement.{statement}
 use Rattle.planner.proofs.narrowing.check_numbers.Tie as tie
 
@@ -27,7 +28,9 @@ returns-2 : tie.Need-returns-2
 returns-2 c = search needs
 
 returns-3 : tie.Need-returns-3
-returns-3 c = rw (c .before .before .a2 .given .1, c .wide .ensures)
+returns-3 c =
+    let e = c .before .before .a2 .given .1 in
+    rw e (refused-numbers _ _ 2 (c .wide .ensures) (subst SmallCheck e (c .before .before .before .before .pre)))
 
 pub check-numbers-spec : {M : Type 1} → statement M
 check-numbers-spec =

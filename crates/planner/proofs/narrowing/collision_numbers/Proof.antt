@@ -3,6 +3,7 @@ use borrow.Author.Needs.{needs}
 use mathlib.Core.Path.{subst, sym, ap, _∙_}
 use Rattle.deck.specs.Numbers.{collisionNumbers}
 use Rattle.planner.specs.Small.{SmallFound}
+use Rattle.planner.proofs.Exported.{refused-numbers}
 use Rattle.planner.proofs.narrowing.collision_numbers.Statement.{statement}
 use Rattle.planner.proofs.narrowing.collision_numbers.Tie as tie
 
@@ -28,7 +29,9 @@ returns-2 : tie.Need-returns-2
 returns-2 c = search needs
 
 returns-3 : tie.Need-returns-3
-returns-3 c = rw (c .before .before .a2 .given .1, c .wide .ensures)
+returns-3 c =
+    let e = c .before .before .a2 .given .1 in
+    rw e (refused-numbers _ _ 7 (c .wide .ensures) (subst SmallFound e (c .before .before .before .before .pre)))
 
 pub collision-numbers-spec : {M : Type 1} → statement M
 collision-numbers-spec =

@@ -8,7 +8,7 @@ least-path-requires : tie.Need-least-path-requires
 least-path-requires c κs = search needs
 
 path-numbers-requires : tie.Need-path-numbers-requires
-path-numbers-requires c κs = path-answer-small (c .before .before .before .before .least-path .ensures)
+path-numbers-requires c κs = path-answer-small (c .before .before .before .before .least-path .result) (c .before .before .before .before .least-path .ensures .0)
 
 same-length : tie.Need-same-length
 same-length c = search needs
@@ -17,7 +17,9 @@ same-length-2 : tie.Need-same-length-2
 same-length-2 c = search needs
 
 returns : tie.Need-returns
-returns c = path-exported (c .before .before .before .before .before .least-path .ensures) (c .path-numbers .ensures)
+returns c =
+    let call = c .before .before .before .before .before .least-path in
+    path-exported (call .result) (call .ensures .0) (call .ensures .1) (c .path-numbers .ensures)
 
 pub planner-least-path-spec : {M : Type 1} → statement M
 planner-least-path-spec =

@@ -8,7 +8,7 @@ search-requires : tie.Need-search-requires
 search-requires c κs = search needs
 
 search-numbers-requires : tie.Need-search-numbers-requires
-search-numbers-requires c κs = search-answer-small (c .before .before .before .before .search .ensures .0)
+search-numbers-requires c κs = search-answer-small (c .before .before .before .before .search .result) (c .before .before .before .before .search .ensures .0)
 
 same-length : tie.Need-same-length
 same-length c = search needs
@@ -18,8 +18,8 @@ same-length-2 c = search needs
 
 returns : tie.Need-returns
 returns c =
-    let call = c .before .before .before .before .before .search .ensures in
-    search-exported (call .0) (call .1) (c .search-numbers .ensures)
+    let call = c .before .before .before .before .before .search in
+    search-exported (call .result) (call .ensures .0) (call .ensures .1) (c .search-numbers .ensures)
 
 pub planner-search-spec : {M : Type 1} → statement M
 planner-search-spec =
