@@ -5,11 +5,10 @@ use tables::HEAVY;
 use tables::entry;
 use tables::weigh;
 use tables::weights;
-use tables::wide;
 ghost use mathlib.Core.Path.{_≡_};
 ghost use mathlib.Core.Bool.{cond};
 ghost use Prim.Native.Nat.{ℕ, _≤_, _<_};
-ghost use lib.ListN.{length, take};
+ghost use lib.ListN.{length, set, take};
 ghost use lib.Dec.{eqb};
 ghost use Rattle.deck.specs.Assignments.{leastAssignment};
 ghost use Rattle.deck.specs.Calls.{taskList};
@@ -17,6 +16,7 @@ ghost use Rattle.meaning.specs.Meaning.{_at_};
 ghost use Rattle.prices.specs.Matching.{cost};
 ghost use Rattle.prices.specs.Weights.{weigh as weighOf};
 ghost use Rattle.prices.specs.Square.{cell, copied};
+ghost use Rattle.hungarian.specs.Solving.{byCarrier};
 ghost use Rattle.partition.specs.Parts.{candidate, noneClosed, slotPart};
 ghost use Rattle.candidates.specs.Candidates.{candidateFor, lessFrom, earlier};
 
@@ -27,33 +27,44 @@ pub struct Candidate {
     pub tasks: [u8; 12],
 }
 
-// The same with the negated prices of the columns, by merged weights.
+// The same with the prices by merged weights: those of the rows, then those of the columns, negated.
 pub struct PricedCandidate {
     pub candidate: Candidate,
-    pub columns: [u64; 12],
+    pub prices: [u64; 24],
 }
 
 // The sum of the weights of the entries that an assignment uses.
-fn total(m: usize, t: &[u16; 144], task: &[usize; 12]) -> u64
-    requires { ⌜ (m ≤ 12) × ((i : ℕ) → i < m → now task at i < 12) ⌝ }
-    ensures { λ r. ⌜ r ≡ cost m (λ i j. weighOf (cell (now (t .entry)) i j)) (now (task .entry)) ⌝ }
+fn total(m: usize, t: &[u16; 144], pairs: &[usize; 24]) -> u64
+    requires { ⌜ (m ≤ 12) × ((i : ℕ) → i < m → byCarrier (now pairs) at i < 12) ⌝ }
+    ensures { λ r. ⌜ r ≡ cost m (λ i j. weighOf (cell (now (t .entry)) i j)) (byCarrier (now (pairs .entry))) ⌝ }
 {
     let mut sum: u64 = 0;
     for i in 0..m {
-        let x = weigh(entry(t, Carrier(i), Task(task[i])));
+        let task = hungarian::task_of(pairs, Carrier(i));
+        let x = weigh(entry(t, Carrier(i), task));
         sum = sum + x;
     }
     sum
 }
 
+// The task of a carrier in a list of tasks.
+fn set_task(tasks: &mut [u8; 12], carrier: Carrier, task: Task)
+    requires { ⌜ (carrier .0 < 12) × (task .0 < 256) ⌝ }
+    ensures { λ _. ⌜ now (tasks .exit) ≡ set (now (tasks .entry)) (carrier .0) (task .0) ⌝ }
+{
+    let i = carrier.0;
+    tasks[i] = task.0 as u8;
+}
+
 // The tasks of m carriers as a list of 12, 255 past m.
-fn listed(m: usize, task: &[usize; 12]) -> [u8; 12]
-    requires { ⌜ (m ≤ 12) × (length (now task) ≡ 12) × ((i : ℕ) → i < m → now task at i < 12) ⌝ }
-    ensures { λ r. ⌜ r ≡ taskList (take m (now (task .entry))) ⌝ }
+fn listed(m: usize, pairs: &[usize; 24]) -> [u8; 12]
+    requires { ⌜ (m ≤ 12) × (length (byCarrier (now pairs)) ≡ 12) × ((i : ℕ) → i < m → byCarrier (now pairs) at i < 12) ⌝ }
+    ensures { λ r. ⌜ r ≡ taskList (take m (byCarrier (now (pairs .entry)))) ⌝ }
 {
     let mut tasks = [255u8; 12];
     for i in 0..m {
-        tasks[i] = (task[i] % 256) as u8;
+        let task = hungarian::task_of(pairs, Carrier(i));
+        set_task(&mut tasks, Carrier(i), task);
     }
     tasks
 }
@@ -64,12 +75,10 @@ pub fn first_priced(m: usize, t: &[u16; 144]) -> PricedCandidate
     ensures { λ r. ⌜ r .candidate ≡ candidateFor m (copied m (now (t .entry))) (leastAssignment m (copied m (now (t .entry)))) ⌝ }
 {
     let w = weights(m, t, true);
-    let mut u = [0u64; 12];
-    let mut v = [0u64; 12];
-    let mut task = [12usize; 12];
-    let mut carrier = [12usize; 12];
-    hungarian::solve(m, &w, &mut u, &mut v, &mut task, &mut carrier);
-    let sum = total(m, t, &task);
+    let mut prices = [0u64; 24];
+    let mut pairs = [12usize; 24];
+    hungarian::solve(m, &w, &mut prices, &mut pairs);
+    let sum = total(m, t, &pairs);
     if HEAVY <= sum {
         return PricedCandidate {
             candidate: Candidate {
@@ -77,16 +86,16 @@ pub fn first_priced(m: usize, t: &[u16; 144]) -> PricedCandidate
                 sum: 0,
                 tasks: [255; 12],
             },
-            columns: v,
+            prices: prices,
         };
     }
     PricedCandidate {
         candidate: Candidate {
             found: true,
             sum: (sum % 4294967296) as u32,
-            tasks: listed(m, &task),
+            tasks: listed(m, &pairs),
         },
-        columns: v,
+        prices: prices,
     }
 }
 
@@ -101,20 +110,29 @@ pub fn first(m: usize, t: &[u16; 144]) -> Candidate
 }
 
 // The closed tasks of a part in its slot j, before the task of carrier j is closed too: only where j is the part's own row.
-fn closed_before(row: usize, closed: &[u8; 12], j: usize) -> [u8; 12]
-    ensures { λ r. ⌜ r ≡ cond (eqb j row) (now (closed .entry)) noneClosed ⌝ }
+fn closed_before(row: Carrier, closed: &[u8; 12], j: Carrier) -> [u8; 12]
+    ensures { λ r. ⌜ r ≡ cond (eqb (j .0) (row .0)) (now (closed .entry)) noneClosed ⌝ }
 {
-    if j == row { *closed } else { [0; 12] }
+    if j.0 == row.0 { *closed } else { [0; 12] }
+}
+
+// A task closed too.
+fn close(closed: &mut [u8; 12], task: Task)
+    requires { ⌜ task .0 < 12 ⌝ }
+    ensures { λ _. ⌜ now (closed .exit) ≡ set (now (closed .entry)) (task .0) 1 ⌝ }
+{
+    let k = task.0;
+    closed[k] = 1;
 }
 
 // The closed tasks of slot j of a root that has these tasks, and whose own part has this row and these closed tasks.
-pub fn slot_closed(tasks: &[u8; 12], row: usize, closed: &[u8; 12], j: usize) -> [u8; 12]
-    requires { ⌜ (j < 12) × (now tasks at j < 12) ⌝ }
-    ensures { λ r. ⌜ r ≡ slotPart (now (tasks .entry)) row (now (closed .entry)) j .closed ⌝ }
+pub fn slot_closed(tasks: &[u8; 12], row: Carrier, closed: &[u8; 12], j: Carrier) -> [u8; 12]
+    requires { ⌜ (j .0 < 12) × (now tasks at (j .0) < 12) ⌝ }
+    ensures { λ r. ⌜ r ≡ slotPart (now (tasks .entry)) (row .0) (now (closed .entry)) (j .0) .closed ⌝ }
 {
-    let k = wide(tasks[j]);
+    let task = tables::task_of(tasks, j);
     let mut c = closed_before(row, closed, j);
-    c[k] = 1;
+    close(&mut c, task);
     c
 }
 
@@ -123,12 +141,12 @@ pub fn slot_candidate(
     m: usize,
     t: &[u16; 144],
     tasks: &[u8; 12],
-    row: usize,
+    row: Carrier,
     closed: &[u8; 12],
-    j: usize,
+    j: Carrier,
 ) -> Candidate
-    requires { ⌜ (m ≤ 12) × (j < m) × (now tasks at j < 12) ⌝ }
-    ensures { λ r. ⌜ r ≡ candidateFor m (copied m (now (t .entry))) (candidate m (copied m (now (t .entry))) (slotPart (take m (now (tasks .entry))) row (now (closed .entry)) j)) ⌝ }
+    requires { ⌜ (m ≤ 12) × (j .0 < m) × (now tasks at (j .0) < 12) ⌝ }
+    ensures { λ r. ⌜ r ≡ candidateFor m (copied m (now (t .entry))) (candidate m (copied m (now (t .entry))) (slotPart (take m (now (tasks .entry))) (row .0) (now (closed .entry)) (j .0))) ⌝ }
 {
     let c = slot_closed(tasks, row, closed, j);
     let p = tables::part(m, t, tasks, j, &c);

@@ -4,14 +4,14 @@ use mathlib.Core.Path.{_≡_, _∙_}
 use mathlib.Core.Bool.{true}
 use native.Mathlib.Omega.{arith}
 use borrow.Author.Needs.{needs}
-use Rattle.hungarian.specs.Solving.{Solved}
+use Rattle.hungarian.specs.Solving.{byCarrier, byTask, Solved}
 use Rattle.hungarian.proofs.Rounds.{nothing-solved}
 use Rattle.candidates.proofs.Firsts.{weights-light, tasks-low, first-none, first-some, candidate-none, candidate-some}
 use Rattle.candidates.proofs.first_priced.Statement.{statement}
 use Rattle.candidates.proofs.first_priced.Tie as tie
 
-solved : (b : tie.After-solve) → let g = b .before .before .before .before .before .before in let o = b .solve .last .1 .1 in
-    Solved (g .before .args .m) (g .weights .result) (g .before .args .m) (o .0) (o .1 .0) (o .1 .1 .0) (o .1 .1 .1 .0)
+solved : (b : tie.After-solve) → let g = b .before .before .before .before in let o = b .solve .last .1 .1 in
+    Solved (g .before .args .m) (g .weights .result) (g .before .args .m) (byCarrier (o .0)) (byTask (o .0)) (byCarrier (o .1 .0)) (byTask (o .1 .0))
 solved b = b .solve .ensures
 
 weights-requires : tie.Need-weights-requires
@@ -19,7 +19,7 @@ weights-requires c κs = search needs
 
 solve-requires : tie.Need-solve-requires
 solve-requires c κs =
-    let g = c .before .before .before .before .before in
+    let g = c .before .before .before in
     let s = g .before in (
       s .pre,
       weights-light (s .args .m) (s .pre) true (s .args .t .now) (g .weights .result) (g .weights .ensures),
@@ -29,39 +29,39 @@ solve-requires c κs =
 total-requires : tie.Need-total-requires
 total-requires c κs =
     let b = c .before in
-    let g = b .before .before .before .before .before .before in
+    let g = b .before .before .before .before in
     let s = g .before in
     let o = b .solve .last .1 .1 in
-    (s .pre, tasks-low (s .args .m) (s .pre) (g .weights .result) (o .0) (o .1 .0) (o .1 .1 .0) (o .1 .1 .1 .0) (solved b))
+    (s .pre, tasks-low (s .args .m) (s .pre) (g .weights .result) (byCarrier (o .0)) (byTask (o .0)) (byCarrier (o .1 .0)) (byTask (o .1 .0)) (solved b))
 
 returns : tie.Need-returns
 returns c =
     let b = c .before .before .before in
-    let g = b .before .before .before .before .before .before in
+    let g = b .before .before .before .before in
     let s = g .before in
     let o = b .solve .last .1 .1 in
     candidate-none (s .args .m) _
-    (first-none (s .args .m) (s .pre) (s .args .t .now) (g .weights .result) (o .0) (o .1 .0) (o .1 .1 .0) (o .1 .1 .1 .0) (g .weights .ensures) (solved b) (c .before .total .result) (c .before .total .ensures) (c .if1 .taken))
+    (first-none (s .args .m) (s .pre) (s .args .t .now) (g .weights .result) (byCarrier (o .0)) (byTask (o .0)) (byCarrier (o .1 .0)) (byTask (o .1 .0)) (g .weights .ensures) (solved b) (c .before .total .result) (c .before .total .ensures) (c .if1 .taken))
 
-cast-t22 : tie.Need-cast-t22
-cast-t22 c = search needs
+cast-t18 : tie.Need-cast-t18
+cast-t18 c = search needs
 
 listed-requires : tie.Need-listed-requires
 listed-requires c κs =
     let b = c .before .before .before .before in
-    let g = b .before .before .before .before .before .before in
+    let g = b .before .before .before .before in
     let s = g .before in
     let o = b .solve .last .1 .1 in
-    (s .pre, solved b .sizes .2, tasks-low (s .args .m) (s .pre) (g .weights .result) (o .0) (o .1 .0) (o .1 .1 .0) (o .1 .1 .1 .0) (solved b))
+    (s .pre, solved b .sizes .2, tasks-low (s .args .m) (s .pre) (g .weights .result) (byCarrier (o .0)) (byTask (o .0)) (byCarrier (o .1 .0)) (byTask (o .1 .0)) (solved b))
 
 returns-2 : tie.Need-returns-2
 returns-2 c =
     let b = c .before .before .before .before .before in
-    let g = b .before .before .before .before .before .before in
+    let g = b .before .before .before .before in
     let s = g .before in
     let o = b .solve .last .1 .1 in
     let t = c .before .before .before in
-    let f = first-some (s .args .m) (s .pre) (s .args .t .now) (g .weights .result) (o .0) (o .1 .0) (o .1 .1 .0) (o .1 .1 .1 .0) (g .weights .ensures) (solved b) (t .total .result) (t .total .ensures) (c .before .before .if1 .left) in
+    let f = first-some (s .args .m) (s .pre) (s .args .t .now) (g .weights .result) (byCarrier (o .0)) (byTask (o .0)) (byCarrier (o .1 .0)) (byTask (o .1 .0)) (g .weights .ensures) (solved b) (t .total .result) (t .total .ensures) (c .before .before .if1 .left) in
     let same : t .total .result % 4294967296 ≡ t .total .result = omega arith in
     candidate-some (s .args .m) _ _ _ _ (f .0) (same ∙ f .1) (c .listed .ensures)
 
@@ -73,6 +73,6 @@ first-priced-spec =
     solve-requires
     total-requires
     returns
-    cast-t22
+    cast-t18
     listed-requires
     returns-2)

@@ -17,7 +17,7 @@ returns : tie.Need-returns
 returns c =
     let s = c .before .before .before .before .before in
     let a = s .args in
-    slot-first (a .m) _ (a .tasks .now) (a .closed .now) (a .row) (a .j) (s .pre .1) (c .before .before .before .before .slot-closed .result)
+    slot-first (a .m) _ (a .tasks .now) (a .closed .now) (a .row .0) (a .j .0) (s .pre .1) (c .before .before .before .before .slot-closed .result)
     (c .before .before .part .result) (c .first .result) (c .before .before .before .before .slot-closed .ensures) (c .before .before .part .ensures) (c .first .ensures)
 
 pub slot-candidate-spec : {M : Type 1} → statement M

@@ -3,22 +3,18 @@ use borrow.Author.Needs.{needs}
 use Rattle.candidates.proofs.slot_closed.Statement.{statement}
 use Rattle.candidates.proofs.slot_closed.Tie as tie
 
-element-copy-out-wide : tie.Need-element-copy-out-wide
-element-copy-out-wide c = search needs
-
-wide-requires : tie.Need-wide-requires
-wide-requires c κs = search needs
+task-of-requires : tie.Need-task-of-requires
+task-of-requires c κs = search needs
 
 closed-before-requires : tie.Need-closed-before-requires
 closed-before-requires c κs = search needs
 
-array-write-c : tie.Need-array-write-c
-array-write-c c = search needs
+close-requires : tie.Need-close-requires
+close-requires c κs = search needs
 
 returns : tie.Need-returns
-returns c = rw (c .before .wide .ensures .0, c .closed-before .ensures)
+returns c = rw (c .close .ensures, c .before .before .closed-before .ensures, c .before .before .before .task-of .ensures .0)
 
 pub slot-closed-spec : {M : Type 1} → statement M
 slot-closed-spec =
-    tie.close
-    (tie.spec element-copy-out-wide wide-requires closed-before-requires array-write-c returns)
+    tie.close (tie.spec task-of-requires closed-before-requires close-requires returns)

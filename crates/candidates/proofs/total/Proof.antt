@@ -5,29 +5,27 @@ use native.Mathlib.Omega.{arith}
 use Rattle.prices.specs.Matching.{cost}
 use Rattle.prices.specs.Weights.{weigh}
 use Rattle.prices.specs.Square.{cell}
+use Rattle.hungarian.specs.Solving.{byCarrier}
 use Rattle.candidates.proofs.Weighing.{cost-next}
 use Rattle.candidates.proofs.total.Statement.{statement}
 use Rattle.candidates.proofs.total.Tie as tie
 
 abbrev Inv-loop : tie.InvT-loop
-Inv-loop m t task sum₀ i₀ sum i = (i ≤ m) × (sum ≡ cost i (λ i j. weigh (cell t i j)) task) × (sum ≤ 786409 * i)
+Inv-loop m t pairs sum₀ i₀ sum i = (i ≤ m) × (sum ≡ cost i (λ i j. weigh (cell t i j)) (byCarrier pairs)) × (sum ≤ 786409 * i)
 
 abbrev μ-loop : tie.MeasureT-loop
-μ-loop m t task sum₀ i₀ sum i = m - i
+μ-loop m t pairs sum₀ i₀ sum i = m - i
 
 loop-holds : tie.Need-loop-holds Inv-loop μ-loop
 loop-holds c = (omega arith, refl, omega arith)
 
-mul-t10 : tie.Need-mul-t10 Inv-loop μ-loop
-mul-t10 c = omega arith
-
-element-copy-out-t13 : tie.Need-element-copy-out-t13 Inv-loop μ-loop
-element-copy-out-t13 c = omega arith
+task-of-requires : tie.Need-task-of-requires Inv-loop μ-loop
+task-of-requires c κs = omega arith
 
 entry-requires : tie.Need-entry-requires Inv-loop μ-loop
 entry-requires c κs =
     let l = c .before .before in
-    (omega arith, l .before .pre .1 (l .loop .i) (c .before .loop-test .taken))
+    (omega arith, omega (arith, l .before .pre .1 (l .loop .i) (c .before .loop-test .taken), c .task-of .ensures))
 
 weigh-requires : tie.Need-weigh-requires Inv-loop μ-loop
 weigh-requires c κs = tt
@@ -44,9 +42,10 @@ loop-less c = omega arith
 loop-again : tie.Need-loop-again Inv-loop μ-loop
 loop-again c =
     let l = c .before .before .before .before in
-    let a = l .before .args in (
+    let a = l .before .args in
+    let e = c .before .entry .ensures ∙ ap (cell (a .t .now) (l .loop .i)) (c .before .before .task-of .ensures) in (
       omega arith,
-      cost-next (λ i j. weigh (cell (a .t .now) i j)) (a .task .now) (l .loop .i) _ _ (l .loop .inv .1) (c .weigh .ensures .0 ∙ ap weigh (c .before .entry .ensures)),
+      cost-next (λ i j. weigh (cell (a .t .now) i j)) (byCarrier (a .pairs .now)) (l .loop .i) _ _ (l .loop .inv .1) (c .weigh .ensures .0 ∙ ap weigh e),
       omega (arith, c .weigh .ensures .2, l .loop .inv .2),
     )
 
@@ -55,7 +54,7 @@ returns c =
     let l = c .before .loop in
     let a = c .before .before .args in
     let e : l .i ≡ a .m = omega arith in
-    l .inv .1 ∙ ap (λ (n : ℕ). cost n (λ i j. weigh (cell (a .t .now) i j)) (a .task .now)) e
+    l .inv .1 ∙ ap (λ (n : ℕ). cost n (λ i j. weigh (cell (a .t .now) i j)) (byCarrier (a .pairs .now))) e
 
 pub total-spec : {M : Type 1} → statement M
 total-spec =
@@ -64,8 +63,7 @@ total-spec =
     Inv-loop
     μ-loop
     loop-holds
-    mul-t10
-    element-copy-out-t13
+    task-of-requires
     entry-requires
     weigh-requires
     add-sum
