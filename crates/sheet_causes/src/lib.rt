@@ -252,10 +252,12 @@ pub fn cause(s: &[u8]) -> u8
     if !starts_good(s) {
         return causes::BAD_START;
     }
-    if !goals_good(s) {
+    let goals = goals_good(s);
+    let last = last_goals_good(s);
+    if !goals {
         return causes::BAD_GOAL;
     }
-    if !last_goals_good(s) {
+    if !last {
         return causes::SHARED_LAST_GOAL;
     }
     0

@@ -46,7 +46,7 @@ abbrev s5 : tie.Else5 → List ℕ
 s5 c = s4 (c .before .before)
 
 abbrev s6 : tie.Else6 → List ℕ
-s6 c = s5 (c .before .before)
+s6 c = s5 (c .before .before .before)
 
 after1 : (c : tie.Else1) → cause (s1 c) ≡ from2 (s1 c)
 unfolding cause
@@ -65,7 +65,7 @@ after5 : (c : tie.Else5) → cause (s5 c) ≡ from6 (s5 c)
 after5 c = goes-on (c .before .starts-good .ensures) 5 (after4 (c .before .before)) (c .if5 .left)
 
 after6 : (c : tie.Else6) → cause (s6 c) ≡ from7 (s6 c)
-after6 c = goes-on (c .before .goals-good .ensures) 6 (after5 (c .before .before)) (c .if6 .left)
+after6 c = goes-on (c .before .before .goals-good .ensures) 6 (after5 (c .before .before .before)) (c .if6 .left)
 
 returns : tie.Need-returns
 unfolding cause
@@ -84,13 +84,13 @@ returns-5 : tie.Need-returns-5
 returns-5 c = stops (c .before .starts-good .ensures) 4 (from6 (s4 (c .before .before))) (after4 (c .before .before)) (c .if5 .taken)
 
 returns-6 : tie.Need-returns-6
-returns-6 c = stops (c .before .goals-good .ensures) 5 (from7 (s5 (c .before .before))) (after5 (c .before .before)) (c .if6 .taken)
+returns-6 c = stops (c .before .before .goals-good .ensures) 5 (from7 (s5 (c .before .before .before))) (after5 (c .before .before .before)) (c .if6 .taken)
 
 returns-7 : tie.Need-returns-7
-returns-7 c = sym (after6 (c .before .before) ∙ rw (failed (c .before .last-goals-good .ensures) (c .if7 .taken)) refl)
+returns-7 c = sym (after6 (c .before) ∙ rw (failed (c .before .before .last-goals-good .ensures) (c .if7 .taken)) refl)
 
 returns-8 : tie.Need-returns-8
-returns-8 c = sym (after6 (c .before .before) ∙ rw (passed (c .before .last-goals-good .ensures) (c .if7 .left)) refl)
+returns-8 c = sym (after6 (c .before) ∙ rw (passed (c .before .before .last-goals-good .ensures) (c .if7 .left)) refl)
 
 pub cause-spec : {M : Type 1} → statement M
 cause-spec =
@@ -106,7 +106,7 @@ cause-spec =
     starts-good-requires
     returns-5
     goals-good-requires
-    returns-6
     last-goals-good-requires
+    returns-6
     returns-7
     returns-8)
