@@ -69,7 +69,7 @@ fn goes(s: &[u8], w: usize, path: &[u16]) -> bool
 
 // How many goals of the task are visited once its carrier is on x, where k were visited before.
 fn visited(s: &[u8], j: Task, x: usize, k: usize) -> usize
-    requires { ⌜ (cause (now s) ≡ 0) × (k ≤ length (goalsOf (read (now s)) j)) ⌝ }
+    requires { ⌜ k ≤ length (goalsOf (read (now s)) j) ⌝ }
     ensures { λ r. ⌜ r ≤ length (goalsOf (read (now (s .entry))) j) ⌝ }
     ensures { λ r. ⌜ visit x (drop k (goalsOf (read (now (s .entry))) j)) ≡ drop r (goalsOf (read (now (s .entry))) j) ⌝ }
 {
@@ -86,7 +86,6 @@ fn visited(s: &[u8], j: Task, x: usize, k: usize) -> usize
 
 // The path visits the goals of the task in order.
 fn visits_all(s: &[u8], j: Task, path: &[u16]) -> bool
-    requires { ⌜ cause (now s) ≡ 0 ⌝ }
     ensures { λ r. ⌜ r ≡ isNil (left (now (path .entry)) (goalsOf (read (now (s .entry))) j)) ⌝ }
 {
     let mut k = 0;

@@ -26,7 +26,7 @@ records-good c = sym (c .before .good-records .ensures) ∙ not-false _ (c .if4 
 
 -- the words of workspace that the sheet asks for
 room-is : (c : tie.After-workspace) → c .workspace .result ≡ workspaceFor (read (c .before .before .before .before .before .before .before .before .before .before .before .before .args .s .now))
-room-is c = c .workspace .ensures .0 (accepted (c .before .before .before .before .before .before .before .before))
+room-is c = c .workspace .ensures .0
 
 enough : (c : tie.Else5) → let a = c .before .before .before .before .before .before .before .before .before .before .before .before .before .before .args in workspaceFor (read (a .s .now)) ≤ a .work
 enough c = omega (arith, room-is (c .before .before), c .if5 .left)

@@ -23,12 +23,12 @@ returns-2 : tie.Need-returns-2
 returns-2 c =
     let f = c .before .before in
     let s = f .before .before .before in
-    c .is-beside .ensures ∙ step-free _ _ _ (f .before .if1 .left) (sym (f .is-free .ensures (s .pre .0)) ∙ c .before .if2 .taken) _ (s .pre .1)
+    c .is-beside .ensures ∙ step-free _ _ _ (f .before .if1 .left) (sym (f .is-free .ensures) ∙ c .before .if2 .taken) _ (s .pre .1)
 
 returns-3 : tie.Need-returns-3
 returns-3 c =
     let f = c .before in
-    step-shut _ _ _ (f .before .if1 .left) (sym (f .is-free .ensures (f .before .before .before .pre .0)) ∙ c .if2 .left)
+    step-shut _ _ _ (f .before .if1 .left) (sym (f .is-free .ensures) ∙ c .if2 .left)
 
 pub may-step-spec : {M : Type 1} → statement M
 may-step-spec =

@@ -24,7 +24,7 @@ abbrev start-of : tie.Else1 → tie.Start
 start-of c = c .before .before .before .before .before .before
 
 begun : (c : tie.Else1) → getD (now (start-of c .args .path)) 0 0 ≡ startOf (read (now (start-of c .args .s))) (start-of c .args .i)
-begun c = sym (c .before .before .wide .ensures .0) ∙ c .if1 .left ∙ c .before .start .ensures .0 (start-of c .pre .0)
+begun c = sym (c .before .before .wide .ensures .0) ∙ c .if1 .left ∙ c .before .start .ensures .0
 
 going : (c : tie.Else2) → follows (read (now (start-of (c .before .before) .args .s))) (now (start-of (c .before .before) .args .path)) ≡ true
 going c = sym (c .before .goes .ensures) ∙ not-false _ (c .if2 .left)
@@ -36,7 +36,7 @@ visited c = sym (c .before .visits-all .ensures) ∙ not-false _ (c .if3 .left)
 finish-is : (c : tie.After-finish) → let s = start-of (c .before .before .before .before .before .before) in c .finish .result ≡ finishOf (read (now (s .args .s))) (s .args .j) (now (s .args .path))
 finish-is c =
     let s = start-of (c .before .before .before .before .before .before) in
-    c .finish .ensures ∙ ap (λ g. finish g (now (s .args .path))) (c .before .last-goal .ensures .0 (s .pre .0))
+    c .finish .ensures ∙ ap (λ g. finish g (now (s .args .path))) (c .before .last-goal .ensures .0)
 
 shared-slice-read-wide : tie.Need-shared-slice-read-wide
 shared-slice-read-wide c = search needs
@@ -50,7 +50,7 @@ start-requires c κs = search needs
 returns : tie.Need-returns
 returns c =
     let s = c .before .before .before .before .before .before in
-    not-begun _ _ _ _ (long s) (λ e. c .if1 .taken (c .before .before .wide .ensures .0 ∙ e ∙ sym (c .before .start .ensures .0 (s .pre .0))))
+    not-begun _ _ _ _ (long s) (λ e. c .if1 .taken (c .before .before .wide .ensures .0 ∙ e ∙ sym (c .before .start .ensures .0)))
 
 goes-requires : tie.Need-goes-requires
 goes-requires c κs = search needs

@@ -20,7 +20,7 @@ goal-count-requires : tie.Need-goal-count-requires Inv-loop μ-loop
 goal-count-requires c κs = tt
 
 loop-holds : tie.Need-loop-holds Inv-loop μ-loop
-loop-holds c = (c .before .before .pre .1, refl)
+loop-holds c = (c .before .before .pre, refl)
 
 goal-requires : tie.Need-goal-requires Inv-loop μ-loop
 goal-requires c κs = tt
@@ -29,8 +29,7 @@ returns : tie.Need-returns Inv-loop μ-loop
 returns c =
     let l = c .before .before in
     let k = l .before .before in
-    let s = k .before .before in
-    (l .before .loop .inv .0, l .before .loop .inv .1 ∙ visit-stop _ _ _ _ (k .goal-count .ensures .0 (s .pre .0)) (l .loop-test .taken) (λ e. c .if1 .taken (c .before .goal .ensures .0 (s .pre .0) ∙ e)))
+    (l .before .loop .inv .0, l .before .loop .inv .1 ∙ visit-stop _ _ _ _ (k .goal-count .ensures .0) (l .loop-test .taken) (λ e. c .if1 .taken (c .before .goal .ensures .0 ∙ e)))
 
 add-n : tie.Need-add-n Inv-loop μ-loop
 add-n c = omega arith
@@ -42,13 +41,12 @@ loop-again : tie.Need-loop-again Inv-loop μ-loop
 loop-again c =
     let l = c .before .before in
     let k = l .before .before in
-    let s = k .before .before in
-    (omega (arith, l .loop-test .taken, k .goal-count .ensures .0 (s .pre .0)), l .before .loop .inv .1 ∙ visit-next _ _ _ _ (k .goal-count .ensures .0 (s .pre .0)) (l .loop-test .taken) (sym (c .before .goal .ensures .0 (s .pre .0)) ∙ c .if1 .left))
+    (omega (arith, l .loop-test .taken, k .goal-count .ensures .0), l .before .loop .inv .1 ∙ visit-next _ _ _ _ (k .goal-count .ensures .0) (l .loop-test .taken) (sym (c .before .goal .ensures .0) ∙ c .if1 .left))
 
 returns-2 : tie.Need-returns-2 Inv-loop μ-loop
 returns-2 c =
     let k = c .before .before in
-    (c .before .loop .inv .0, c .before .loop .inv .1 ∙ visit-over _ _ _ _ (k .goal-count .ensures .0 (k .before .before .pre .0)) (c .loop-test .left))
+    (c .before .loop .inv .0, c .before .loop .inv .1 ∙ visit-over _ _ _ _ (k .goal-count .ensures .0) (c .loop-test .left))
 
 pub visited-spec : {M : Type 1} → statement M
 visited-spec =

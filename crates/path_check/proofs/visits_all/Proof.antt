@@ -36,8 +36,7 @@ wide-requires : tie.Need-wide-requires Inv-loop μ-loop
 wide-requires c κs = tt
 
 visited-requires : tie.Need-visited-requires Inv-loop μ-loop
-visited-requires c κs =
-    (c .before .before .before .before .before .before .pre, c .before .before .before .loop .inv .0)
+visited-requires c κs = c .before .before .before .loop .inv .0
 
 add-t : tie.Need-add-t Inv-loop μ-loop
 add-t c = omega arith
@@ -58,7 +57,7 @@ returns : tie.Need-returns Inv-loop μ-loop
 returns c =
     let l = c .before .before in
     let s = l .before .before .before in
-    ap (eqb (l .loop .k)) (c .goal-count .ensures .0 (s .pre)) ∙ none-left (goals s) (l .loop .k) (l .loop .inv .0) ∙ sym (ap isNil (l .loop .inv .1 ∙ left-over _ (goals s) _ (l .loop .k) (c .before .loop-test .left)))
+    ap (eqb (l .loop .k)) (c .goal-count .ensures .0) ∙ none-left (goals s) (l .loop .k) (l .loop .inv .0) ∙ sym (ap isNil (l .loop .inv .1 ∙ left-over _ (goals s) _ (l .loop .k) (c .before .loop-test .left)))
 
 pub visits-all-spec : {M : Type 1} → statement M
 visits-all-spec =

@@ -47,7 +47,7 @@ loop-holds : tie.Need-loop-holds Inv-loop μ-loop
 loop-holds c =
     let u = c .before .before .before .before .before .before .before .before .before .before .before .before .args in
     let p = c .before .before .before .before .before .before .before .before .before .before .before .before .pre in
-    (early-of (u .s .now) (u .i) (u .j) (u .mask .now) (u .records .now) (p .0) (u .bound) (c .before .stay-from .result) (c .later .result) (p .1) (c .before .stay-from .ensures ∙ ap (λ (g : ℕ). stayFrom (u .i) g (constraintsOf (u .records .now))) (c .before .before .last-goal .ensures .0 (p .0 .accepted))) (c .later .ensures), refl, omega arith)
+    (early-of (u .s .now) (u .i) (u .j) (u .mask .now) (u .records .now) (p .0) (u .bound) (c .before .stay-from .result) (c .later .result) (p .1) (c .before .stay-from .ensures ∙ ap (λ (g : ℕ). stayFrom (u .i) g (constraintsOf (u .records .now))) (c .before .before .last-goal .ensures .0)) (c .later .ensures), refl, omega arith)
 
 same-length : tie.Need-same-length Inv-loop μ-loop
 same-length c = ap length (c .before .before .loop .inv .1)

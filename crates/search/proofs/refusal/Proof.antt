@@ -17,7 +17,7 @@ accepted c = sym (c .before .cause .ensures) ∙ c .if1 .left
 
 -- the words of workspace that the sheet asks for
 room-is : (c : tie.After-workspace) → c .workspace .result ≡ workspaceFor (read (c .before .before .before .before .args .s .now))
-room-is c = c .workspace .ensures .0 (accepted (c .before))
+room-is c = c .workspace .ensures .0
 
 -- the words of a plan
 words-are : (c : tie.After-byte-at2) → c .before .byte-at .result * (c .byte-at2 .result + 1) ≡ planWords (read (c .before .before .before .before .before .before .args .s .now))
