@@ -2,7 +2,7 @@
 use Prim.Native.Nat.{ℕ, zero, suc, _+_, _*_, _≤_, _<_}
 use mathlib.Core.Path.{_≡_, refl, sym, ap, subst, _∙_}
 use mathlib.Core.Logic.{_⊎_, inl, inr}
-use mathlib.Core.Bool.{Bool, true, false, _&&_}
+use mathlib.Core.Bool.{false}
 use mathlib.Core.List.{List}
 use mathlib.Core.Option.{Option, none, some}
 use native.Mathlib.Numerals.{add-one}
@@ -17,11 +17,8 @@ use Rattle.deck.specs.declared.Collision.{Collision}
 use Rattle.deck.specs.declared.CollisionAnswer.{CollisionAnswer}
 use Rattle.deck.specs.declared.CollisionAnswer.the-variants.{Refused}
 use Rattle.meaning.proofs.Collisions.{FirstMeant, first-collision-meant}
+use Rattle.collision_scan.proofs.Words.{and-false}
 use Rattle.collision.specs.Meant.{Meant}
-
-pub and-false : (x : Bool) → x && false ≡ false
-and-false true = refl
-and-false false = refl
 
 module _ (m h : ℕ) (ws : List ℕ) where
   -- what the call ensures of its answer

@@ -1,3 +1,1 @@
-pub mod Words
-pub mod Marks
 pub mod Meant

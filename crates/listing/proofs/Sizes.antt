@@ -18,7 +18,7 @@ use Rattle.deck.specs.declared.SearchKind.the-variants.{Plan, NoPlan, Spent, Re
 use Rattle.deck.specs.declared.SearchAnswer.{SearchAnswer}
 use Rattle.meaning.proofs.Accepted.{accepted-horizon}
 use Rattle.sheet.proofs.Accepted.{count-range}
-use Rattle.collision.proofs.Words.{piece-at}
+use Rattle.collision_scan.proofs.Words.{piece-at}
 use Rattle.listing.proofs.Decimals.{one-digit, more-digits}
 
 -- a number below 10 ^ (k + 1) has at most k + 1 digits

@@ -103,7 +103,7 @@ fn put_carrier(s: &[u8], i: Carrier, j: Task, path: &[u16], text: &mut [u8], at:
     requires { ⌜ (cause (now s) ≡ 0) × (at ≤ length (now text)) ⌝ }
     ensures { λ r. ⌜ Wrote (now (text .entry)) at (carrierLine (read (now (s .entry))) (i .0) (j .0) (now (path .entry))) (now (text .exit)) r ⌝ }
 {
-    let finish = plan_check::path::finish(path, sheet::last_goal(s, j));
+    let finish = path_check::finish(path, sheet::last_goal(s, j));
     let named = put_field(text, at, b"carrier ", i.0);
     let tasked = put_field(text, named, b" task ", j.0);
     let finished = put_field(text, tasked, b" finish ", finish);

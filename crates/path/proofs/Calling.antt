@@ -17,7 +17,7 @@ use Rattle.meaning.proofs.Accepted.{first-none, passes-last}
 use Rattle.kernel.proofs.Both.{and-left, and-right}
 use Rattle.bars.specs.Padded.{MaskOf}
 use Rattle.passes.specs.Ready.{Ready, roomFor}
-use Rattle.path.proofs.Finding.{enough-room}
+use Rattle.by_passes.proofs.Finding.{enough-room}
 
 module _ (s : List ℕ) (i : Carrier) (j : Task) (work out : ℕ) (rs : List ℕ) (ok : pathCause s i j work out rs ≡ 0) where
   -- what no cause says

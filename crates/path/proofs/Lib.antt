@@ -1,3 +1,1 @@
-pub mod Finding
-pub mod Masking
 pub mod Calling

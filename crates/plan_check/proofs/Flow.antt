@@ -23,9 +23,10 @@ use Rattle.deck.specs.declared.PathAnswer.the-variants.{Found, NoPath, Refused}
 use Rattle.deck.specs.declared.CheckAnswer.{CheckAnswer}
 use Rattle.deck.specs.declared.CheckAnswer.the-variants.{Yes, No}
 use Rattle.meaning.proofs.Paths.{is-path-meant}
-use Rattle.collision.proofs.Words.{piece-at}
-use Rattle.plan_check.specs.Answers.{pathAnswer, flowAnswer}
-use Rattle.plan_check.proofs.Parts.{rest-next, rest-none}
+use Rattle.collision_scan.proofs.Words.{piece-at}
+use Rattle.path_check.specs.Answers.{pathAnswer}
+use Rattle.path_check.proofs.Parts.{rest-next, rest-none}
+use Rattle.plan_check.specs.Answers.{flowAnswer}
 
 -- whether there are collisions, by the answer of the search for the first
 module _ (m h : ℕ) (ps : List (List ℕ)) where

@@ -10,8 +10,8 @@ use lib.Dec.{ltb, eqb}
 use borrow.Author.Tests.{lt-ltb, le-ltb, eq-eqb, ne-eqb}
 use Rattle.deck.specs.Lists.{all, has, distinct}
 use Rattle.deck.specs.PlanCheck.{isAssignment}
-use Rattle.collision.proofs.Calls.{and-false}
-use Rattle.plan_check.proofs.Parts.{rest-next, rest-none}
+use Rattle.collision_scan.proofs.Words.{and-false}
+use Rattle.path_check.proofs.Parts.{rest-next, rest-none}
 
 -- the numbers from k on are 255
 module _ (l : List ℕ) (n : ℕ) (long : length l ≡ n) (k : ℕ) where

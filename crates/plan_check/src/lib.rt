@@ -1,5 +1,4 @@
 // The plan check of document 01: yes exactly for a plan, with its flowtime.
-pub mod path;
 mod tasks;
 
 use deck::Carrier;
@@ -26,7 +25,7 @@ fn apart(m: usize, h: usize, paths: &[u16]) -> bool
     requires { ⌜ (m * suc h ≤ length (now paths)) × (h < 65536) ⌝ }
     ensures { λ r. ⌜ r ≡ isNil (collisions m h (pieces m (suc h) (now (paths .entry)))) ⌝ }
 {
-    match collision::first_among(m, h, paths) {
+    match collision_scan::first_among(m, h, paths) {
         CollisionAnswer::NoCollision => true,
         CollisionAnswer::Found(_) => false,
         CollisionAnswer::Refused(_) => false,
@@ -42,7 +41,7 @@ fn flowtime(s: &[u8], w: usize, m: usize, h: usize, tasks: [u8; 12], paths: &[u1
     let mut sum = 0;
     for i in 0..m {
         let j = tasks::wide(tasks[i]);
-        match path::path_finish(s, w, h, Carrier(i), Task(j), &paths[i * n..i * n + n]) {
+        match path_check::path_finish(s, w, h, Carrier(i), Task(j), &paths[i * n..i * n + n]) {
             PathAnswer::Found(t) => sum = sum + t,
             PathAnswer::NoPath => return CheckAnswer::No,
             PathAnswer::Refused(_) => return CheckAnswer::No,

@@ -36,7 +36,7 @@ use Rattle.optimal.proofs.Select.{cheapest-picks}
 use Rattle.optimal.proofs.Deck.{rules, laws}
 use Rattle.prices.proofs.Growth.{lower}
 use Rattle.collision.specs.Meant.{Meant as CollisionMeant}
-use Rattle.collision.proofs.Words.{place-in}
+use Rattle.collision_scan.proofs.Words.{place-in}
 use Rattle.plan_check.specs.Meant.{PlanFor, Meant as CheckMeant}
 use Rattle.path.proofs.Calling.{NoCause, no-cause}
 use Rattle.assignment.proofs.Calls.{count-high}

@@ -21,7 +21,7 @@ use Rattle.meaning.proofs.Tests.{is-true}
 use Rattle.kernel.proofs.Least.{meets-can, hind-can, no-time-none, time-path, time-finish}
 use Rattle.passes.specs.Ready.{Ready, Early}
 use Rattle.passes.proofs.Given.{begins-free, ends-free, in-time}
-use Rattle.path.proofs.Finding.{guess-least, answers-found}
+use Rattle.by_passes.proofs.Finding.{guess-least, answers-found}
 use Rattle.first_walk.specs.Walk.{Walked}
 use Rattle.first_walk.specs.declared.Tried.{Tried}
 use Rattle.first_walk.specs.declared.Tried.the-variants.{Found as WalkFound, NoWalk, Unknown}

@@ -46,10 +46,10 @@ fn by_passes(
 {
     let size = (sheet::byte_at(s, 3) + 1) * sheet::byte_at(s, 0) * sheet::byte_at(s, 1);
     if size < FEW {
-        return path::least(s, i, j, mask, bound, spare, out, records);
+        return by_passes::least(s, i, j, mask, bound, spare, out, records);
     }
     let from = 512 * sheet::word_at(s, 4) + 4096;
-    path::least(s, i, j, mask, bound, &mut work[from..], out, records)
+    by_passes::least(s, i, j, mask, bound, &mut work[from..], out, records)
 }
 
 // By the walk: at the first time at which the path may finish, and at the next ones. A child's path mostly finishes when its

@@ -117,7 +117,7 @@ fn accepted(s: &[u8], work: &mut [u32], out: &mut [u16]) -> SearchAnswer
     requires { ⌜ (cause (now s) ≡ 0) × (workspaceFor (read (now s)) ≤ length (now work)) × (planWords (read (now s)) ≤ length (now out)) ⌝ }
     ensures { λ r. ⌜ (r ≡ searchFound (planFor (read (now (s .entry))))) × (now (out .exit) ≡ searchWritten (planFor (read (now (s .entry)))) (now (out .entry))) ⌝ }
 {
-    let mask = path::mask_of(s);
+    let mask = mask::mask_of(s);
     let starts = starts_of(s);
     let t = finishes::table(s, &mask);
     let first = candidates::first(sheet::byte_at(s, 2), &t);

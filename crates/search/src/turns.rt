@@ -93,7 +93,7 @@ fn collision_of(
     let m = sheet::byte_at(s, 2);
     let last = sheet::byte_at(s, 3);
     nodes::write_paths(work, n, starts, w, last, m, paths);
-    collision::first_among(m, last, paths)
+    collision_scan::first_among(m, last, paths)
 }
 
 // Expands node n, which costs `cost`, by the collision c.

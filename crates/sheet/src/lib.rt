@@ -1,5 +1,6 @@
-// The calls that read a job sheet (document 01, "The job sheet") out of any bytes whatever: none has a `requires`. A byte past the end
-// reads 0, as in the definitions. What holds of an accepted sheet alone is said as an implication.
+// The calls that read a job sheet (document 01, "The job sheet"). Each equals its definition on any bytes whatever: a byte past the
+// end reads 0, a stretch is cut off where the sheet ends, and a task from m on has no goals. What holds of an accepted sheet alone is
+// said as an implication.
 use deck::Carrier;
 use deck::Reading;
 use deck::Task;
@@ -99,9 +100,9 @@ pub fn word_at(s: &[u8], k: usize) -> usize
     sheet_parts::word_at(s, k)
 }
 
-// The grid byte of the place v: 0 free, 1 blocked.
+// The grid byte of the place v, 0 past the grid. Of an accepted sheet: 0 free, 1 blocked.
 pub fn grid_byte(s: &[u8], v: usize) -> u8
-    ensures { λ r. ⌜ (cause (now (s .entry)) ≡ 0 → r ≡ getD (read (now (s .entry)) .grid) v 0) ⌝ }
+    ensures { λ r. ⌜ r ≡ getD (read (now (s .entry)) .grid) v 0 ⌝ }
     ensures { λ r. ⌜ (cause (now (s .entry)) ≡ 0 → r ≤ 1) ⌝ }
 {
     sheet_parts::cell(s, v)
@@ -109,14 +110,14 @@ pub fn grid_byte(s: &[u8], v: usize) -> u8
 
 // v is a place of the grid that is not blocked.
 pub fn is_free(s: &[u8], v: usize) -> bool
-    ensures { λ r. ⌜ (cause (now (s .entry)) ≡ 0 → r ≡ free (read (now (s .entry))) v) ⌝ }
+    ensures { λ r. ⌜ r ≡ free (read (now (s .entry))) v ⌝ }
 {
     sheet_parts::free_place(s, v)
 }
 
-// The place at which the carrier i starts.
+// The place at which the carrier i starts, 0 past the last start.
 pub fn start(s: &[u8], i: Carrier) -> usize
-    ensures { λ r. ⌜ (cause (now (s .entry)) ≡ 0 → r ≡ startOf (read (now (s .entry))) i) ⌝ }
+    ensures { λ r. ⌜ r ≡ startOf (read (now (s .entry))) i ⌝ }
     ensures { λ r. ⌜ (cause (now (s .entry)) ≡ 0 → r < area (read (now (s .entry)))) ⌝ }
     ensures { λ r. ⌜ r < 65536 ⌝ }
 {
@@ -126,25 +127,25 @@ pub fn start(s: &[u8], i: Carrier) -> usize
 
 // How many goals the task j has.
 pub fn goal_count(s: &[u8], j: Task) -> usize
-    ensures { λ r. ⌜ (cause (now (s .entry)) ≡ 0 → r ≡ length (goalsOf (read (now (s .entry))) j)) ⌝ }
+    ensures { λ r. ⌜ r ≡ length (goalsOf (read (now (s .entry))) j) ⌝ }
     ensures { λ r. ⌜ (cause (now (s .entry)) ≡ 0 → r ≤ 8) ⌝ }
     ensures { λ r. ⌜ (cause (now (s .entry)) ≡ 0 → j .0 < countOf (now (s .entry)) → 0 < r) ⌝ }
 {
     sheet_parts::goals_number(s, j)
 }
 
-// The goal k of the task j, counted from 0.
+// The goal k of the task j, counted from 0; 0 past its last.
 pub fn goal(s: &[u8], j: Task, k: usize) -> usize
-    ensures { λ r. ⌜ (cause (now (s .entry)) ≡ 0 → r ≡ getD (goalsOf (read (now (s .entry))) j) k 0) ⌝ }
+    ensures { λ r. ⌜ r ≡ getD (goalsOf (read (now (s .entry))) j) k 0 ⌝ }
     ensures { λ r. ⌜ (cause (now (s .entry)) ≡ 0 → r < area (read (now (s .entry)))) ⌝ }
     ensures { λ r. ⌜ r < 65536 ⌝ }
 {
     sheet_parts::nth_word(sheet_parts::task_part(s, j), k)
 }
 
-// The last goal of the task j.
+// The last goal of the task j, 0 where it has none.
 pub fn last_goal(s: &[u8], j: Task) -> usize
-    ensures { λ r. ⌜ (cause (now (s .entry)) ≡ 0 → r ≡ lastGoal (read (now (s .entry))) j) ⌝ }
+    ensures { λ r. ⌜ r ≡ lastGoal (read (now (s .entry))) j ⌝ }
     ensures { λ r. ⌜ (cause (now (s .entry)) ≡ 0 → r < area (read (now (s .entry)))) ⌝ }
     ensures { λ r. ⌜ r < 65536 ⌝ }
 {
@@ -172,7 +173,7 @@ fn most_goals(s: &[u8]) -> usize
 
 // How many words of 32 bits of workspace the sheet asks for.
 pub fn workspace(s: &[u8]) -> usize
-    ensures { λ r. ⌜ (cause (now (s .entry)) ≡ 0 → r ≡ workspaceFor (read (now (s .entry)))) ⌝ }
+    ensures { λ r. ⌜ r ≡ workspaceFor (read (now (s .entry))) ⌝ }
     ensures { λ r. ⌜ (cause (now (s .entry)) ≡ 0 → r < 8388608) ⌝ }
 {
     let layers = byte_at(s, HORIZON) + 1;

@@ -23,13 +23,13 @@ goals-of-requires : tie.Need-goals-of-requires Inv-loop μ-loop
 goals-of-requires c κs = search needs
 
 last-two-requires : tie.Need-last-two-requires Inv-loop μ-loop
-last-two-requires c κs = (record { accepted = c .before .before .before .before .before .before .pre .0; task-in = c .before .before .before .before .before .before .pre .1; masked = c .before .before .before .before .before .before .pre .2 }, c .before .before .goals-of .ensures, c .before .before .before .goal-count .ensures .0 (c .before .before .before .before .before .before .pre .0), c .before .before .before .before .before .before .pre .3)
+last-two-requires c κs = (record { accepted = c .before .before .before .before .before .before .pre .0; task-in = c .before .before .before .before .before .before .pre .1; masked = c .before .before .before .before .before .before .pre .2 }, c .before .before .goals-of .ensures, c .before .before .before .goal-count .ensures .0, c .before .before .before .before .before .before .pre .3)
 
 sub-k : tie.Need-sub-k Inv-loop μ-loop
 sub-k c = omega (arith, c .before .before .before .before .before .before .goal-count .ensures .1 .1 (c .before .before .before .before .before .before .before .before .before .pre .0) (c .before .before .before .before .before .before .before .before .before .pre .1))
 
 loop-holds : tie.Need-loop-holds Inv-loop μ-loop
-loop-holds c = (omega (arith, c .before .before .before .before .before .before .goal-count .ensures .0 (c .before .before .before .before .before .before .before .before .before .pre .0), c .before .before .before .before .before .before .goal-count .ensures .1 .1 (c .before .before .before .before .before .before .before .before .before .pre .0) (c .before .before .before .before .before .before .before .before .before .pre .1)), c .before .before .last-two .ensures)
+loop-holds c = (omega (arith, c .before .before .before .before .before .before .goal-count .ensures .0, c .before .before .before .before .before .before .goal-count .ensures .1 .1 (c .before .before .before .before .before .before .before .before .before .pre .0) (c .before .before .before .before .before .before .before .before .before .pre .1)), c .before .before .last-two .ensures)
 
 sub-k-2 : tie.Need-sub-k-2 Inv-loop μ-loop
 sub-k-2 c = search needs

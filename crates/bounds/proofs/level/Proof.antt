@@ -49,7 +49,7 @@ same-length : tie.Need-same-length
 same-length c = search needs
 
 returns : tie.Need-returns
-returns c = one-level (c .before .before .before .before .before .before .before .before .before .before .before .before .before .args .s .now) (c .before .before .before .before .before .before .before .before .before .before .before .before .before .args .j) (c .before .before .before .before .before .before .before .before .before .before .before .before .before .args .mask .now) (c .before .before .before .before .before .before .before .before .before .before .before .before .before .pre .0) (c .before .before .before .before .before .before .before .before .before .before .byte-at .ensures .0) (c .before .before .before .before .before .before .before .before .before .byte-at2 .ensures .0) (c .before .before .before .before .before .before .before .before .before .before .before .before .before .args .goals .now) (c .before .before .before .before .before .before .before .before .before .before .before .before .before .pre .1) (c .before .before .before .before .before .before .before .before .before .before .before .before .before .args .k) _ _ _ _ (c .before .before .before .before .before .before .before .before .before .before .before .before .before .pre .2) (c .before .before .before .before .before .before .before .before .before .before .before .before .before .pre .3) (ap (λ (z : ℕ). getD (c .before .before .before .before .before .before .before .before .before .before .before .before .before .args .table .now) (1024 * (c .before .before .before .before .before .before .before .before .before .before .before .before .before .args .k + 1) + z) 0) (c .before .before .before .before .before .before .before .before .goal .ensures .0 (c .before .before .before .before .before .before .before .before .before .before .before .before .before .pre .0 .accepted))) (c .before .before .before .before .before .layer .ensures) (c .before .before .store .ensures)
+returns c = one-level (c .before .before .before .before .before .before .before .before .before .before .before .before .before .args .s .now) (c .before .before .before .before .before .before .before .before .before .before .before .before .before .args .j) (c .before .before .before .before .before .before .before .before .before .before .before .before .before .args .mask .now) (c .before .before .before .before .before .before .before .before .before .before .before .before .before .pre .0) (c .before .before .before .before .before .before .before .before .before .before .byte-at .ensures .0) (c .before .before .before .before .before .before .before .before .before .byte-at2 .ensures .0) (c .before .before .before .before .before .before .before .before .before .before .before .before .before .args .goals .now) (c .before .before .before .before .before .before .before .before .before .before .before .before .before .pre .1) (c .before .before .before .before .before .before .before .before .before .before .before .before .before .args .k) _ _ _ _ (c .before .before .before .before .before .before .before .before .before .before .before .before .before .pre .2) (c .before .before .before .before .before .before .before .before .before .before .before .before .before .pre .3) (ap (λ (z : ℕ). getD (c .before .before .before .before .before .before .before .before .before .before .before .before .before .args .table .now) (1024 * (c .before .before .before .before .before .before .before .before .before .before .before .before .before .args .k + 1) + z) 0) (c .before .before .before .before .before .before .before .before .goal .ensures .0)) (c .before .before .before .before .before .layer .ensures) (c .before .before .store .ensures)
 
 pub level-spec : {M : Type 1} → statement M
 level-spec =

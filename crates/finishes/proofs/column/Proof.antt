@@ -26,13 +26,13 @@ reversed-requires : tie.Need-reversed-requires Inv-loop μ-loop
 reversed-requires c κs = c .goal-count .ensures .1 .0 (c .before .before .before .before .pre .0)
 
 first-layer-requires : tie.Need-first-layer-requires Inv-loop μ-loop
-first-layer-requires c κs = (c .before .before .before .before .before .before .pre .0, c .before .before .before .before .before .before .pre .1, turned-of (c .before .before .before .before .before .before .args .s .now) (c .before .before .before .before .before .before .pre .0) (c .before .before .before .before .before .before .args .j) _ (c .before .before .goal-count .ensures .0 (c .before .before .before .before .before .before .pre .0)) (c .before .before .before .before .goals-of .result) (c .before .reversed .result) (c .before .before .before .before .goals-of .ensures) (c .before .reversed .ensures))
+first-layer-requires c κs = (c .before .before .before .before .before .before .pre .0, c .before .before .before .before .before .before .pre .1, turned-of (c .before .before .before .before .before .before .args .s .now) (c .before .before .before .before .before .before .pre .0) (c .before .before .before .before .before .before .args .j) _ (c .before .before .goal-count .ensures .0) (c .before .before .before .before .goals-of .result) (c .before .reversed .result) (c .before .before .before .before .goals-of .ensures) (c .before .reversed .ensures))
 
 loop-holds : tie.Need-loop-holds Inv-loop μ-loop
 loop-holds c = (passing-first (c .before .before .before .before .before .before .before .args .s .now) (c .before .before .before .before .before .before .before .pre .0) (c .before .before .before .before .before .before .before .args .j) (c .first-layer .result) (c .first-layer .ensures), refl)
 
 ends-requires : tie.Need-ends-requires Inv-loop μ-loop
-ends-requires c κs = (record { accepted = c .before .before .before .before .before .before .before .before .before .before .before .before .pre .0; task-in = c .before .before .before .before .before .before .before .before .before .before .before .before .pre .1; masked = c .before .before .before .before .before .before .before .before .before .before .before .before .pre .2; begins = c .before .before .before .before .before .before .before .before .before .before .before .before .pre .3; turned = turned-of (c .before .before .before .before .before .before .before .before .before .before .before .before .args .s .now) (c .before .before .before .before .before .before .before .before .before .before .before .before .pre .0) (c .before .before .before .before .before .before .before .before .before .before .before .before .args .j) _ (c .before .before .before .before .before .before .before .before .goal-count .ensures .0 (c .before .before .before .before .before .before .before .before .before .before .before .before .pre .0)) (c .before .before .before .before .before .before .before .before .before .before .goals-of .result) (c .before .before .before .before .before .before .before .reversed .result) (c .before .before .before .before .before .before .before .before .before .before .goals-of .ensures) (c .before .before .before .before .before .before .before .reversed .ensures) }, c .before .before .before .before .loop .inv .0, c .before .before .before .before .loop .inv .1)
+ends-requires c κs = (record { accepted = c .before .before .before .before .before .before .before .before .before .before .before .before .pre .0; task-in = c .before .before .before .before .before .before .before .before .before .before .before .before .pre .1; masked = c .before .before .before .before .before .before .before .before .before .before .before .before .pre .2; begins = c .before .before .before .before .before .before .before .before .before .before .before .before .pre .3; turned = turned-of (c .before .before .before .before .before .before .before .before .before .before .before .before .args .s .now) (c .before .before .before .before .before .before .before .before .before .before .before .before .pre .0) (c .before .before .before .before .before .before .before .before .before .before .before .before .args .j) _ (c .before .before .before .before .before .before .before .before .goal-count .ensures .0) (c .before .before .before .before .before .before .before .before .before .before .goals-of .result) (c .before .before .before .before .before .before .before .reversed .result) (c .before .before .before .before .before .before .before .before .before .before .goals-of .ensures) (c .before .before .before .before .before .before .before .reversed .ensures) }, c .before .before .before .before .loop .inv .0, c .before .before .before .before .loop .inv .1)
 
 returns : tie.Need-returns Inv-loop μ-loop
 returns c = c .before .ends .ensures .0 (c .if1 .taken)
@@ -41,7 +41,7 @@ add-ends : tie.Need-add-ends Inv-loop μ-loop
 add-ends c = omega (arith, c .before .before .before .before .before .before .before .loop .inv .0 .in-time, horizon-range (c .before .before .before .before .before .before .before .before .before .before .before .before .before .before .before .args .s .now) (c .before .before .before .before .before .before .before .before .before .before .before .before .before .before .before .pre .0))
 
 ends-requires-2 : tie.Need-ends-requires-2 Inv-loop μ-loop
-ends-requires-2 c κs = (record { accepted = c .before .before .before .before .before .before .before .before .before .before .before .before .before .before .before .before .before .before .pre .0; task-in = c .before .before .before .before .before .before .before .before .before .before .before .before .before .before .before .before .before .before .pre .1; masked = c .before .before .before .before .before .before .before .before .before .before .before .before .before .before .before .before .before .before .pre .2; begins = c .before .before .before .before .before .before .before .before .before .before .before .before .before .before .before .before .before .before .pre .3; turned = turned-of (c .before .before .before .before .before .before .before .before .before .before .before .before .before .before .before .before .before .before .args .s .now) (c .before .before .before .before .before .before .before .before .before .before .before .before .before .before .before .before .before .before .pre .0) (c .before .before .before .before .before .before .before .before .before .before .before .before .before .before .before .before .before .before .args .j) _ (c .before .before .before .before .before .before .before .before .before .before .before .before .before .before .goal-count .ensures .0 (c .before .before .before .before .before .before .before .before .before .before .before .before .before .before .before .before .before .before .pre .0)) (c .before .before .before .before .before .before .before .before .before .before .before .before .before .before .before .before .goals-of .result) (c .before .before .before .before .before .before .before .before .before .before .before .before .before .reversed .result) (c .before .before .before .before .before .before .before .before .before .before .before .before .before .before .before .before .goals-of .ensures) (c .before .before .before .before .before .before .before .before .before .before .before .before .before .reversed .ensures) }, c .before .before .before .before .before .ends .ensures .1 (c .before .before .before .before .if1 .left), c .before .before .before .before .before .ends .ensures .2)
+ends-requires-2 c κs = (record { accepted = c .before .before .before .before .before .before .before .before .before .before .before .before .before .before .before .before .before .before .pre .0; task-in = c .before .before .before .before .before .before .before .before .before .before .before .before .before .before .before .before .before .before .pre .1; masked = c .before .before .before .before .before .before .before .before .before .before .before .before .before .before .before .before .before .before .pre .2; begins = c .before .before .before .before .before .before .before .before .before .before .before .before .before .before .before .before .before .before .pre .3; turned = turned-of (c .before .before .before .before .before .before .before .before .before .before .before .before .before .before .before .before .before .before .args .s .now) (c .before .before .before .before .before .before .before .before .before .before .before .before .before .before .before .before .before .before .pre .0) (c .before .before .before .before .before .before .before .before .before .before .before .before .before .before .before .before .before .before .args .j) _ (c .before .before .before .before .before .before .before .before .before .before .before .before .before .before .goal-count .ensures .0) (c .before .before .before .before .before .before .before .before .before .before .before .before .before .before .before .before .goals-of .result) (c .before .before .before .before .before .before .before .before .before .before .before .before .before .reversed .result) (c .before .before .before .before .before .before .before .before .before .before .before .before .before .before .before .before .goals-of .ensures) (c .before .before .before .before .before .before .before .before .before .before .before .before .before .reversed .ensures) }, c .before .before .before .before .before .ends .ensures .1 (c .before .before .before .before .if1 .left), c .before .before .before .before .before .ends .ensures .2)
 
 returns-2 : tie.Need-returns-2 Inv-loop μ-loop
 returns-2 c = c .before .ends2 .ensures .0 (c .if2 .taken)

@@ -28,10 +28,10 @@ goal-count-requires : tie.Need-goal-count-requires
 goal-count-requires c κs = search needs
 
 seed-requires : tie.Need-seed-requires
-seed-requires c κs = seed-wants (c .before .before .before .before .before .before .before .before .args .s .now) (c .before .before .before .before .before .before .before .before .pre .0) (c .before .before .before .before .before .before .before .before .args .j) _ _ _ _ (c .before .before .before .before .before .before .byte-at .ensures .0) (c .goal-count .ensures .0 (c .before .before .before .before .before .before .before .before .pre .0)) (c .before .before .before .before .before .last-goal .ensures .0 (c .before .before .before .before .before .before .before .before .pre .0)) (c .before .before .before .before .pad .ensures) (c .before .before .before .before .before .before .before .before .args .goals .now) (c .before .before .before .before .before .before .before .before .pre .2) _
+seed-requires c κs = seed-wants (c .before .before .before .before .before .before .before .before .args .s .now) (c .before .before .before .before .before .before .before .before .pre .0) (c .before .before .before .before .before .before .before .before .args .j) _ _ _ _ (c .before .before .before .before .before .before .byte-at .ensures .0) (c .goal-count .ensures .0) (c .before .before .before .before .before .last-goal .ensures .0) (c .before .before .before .before .pad .ensures) (c .before .before .before .before .before .before .before .before .args .goals .now) (c .before .before .before .before .before .before .before .before .pre .2) _
 
 returns : tie.Need-returns
-returns c = seeded-steps (c .before .before .before .before .before .before .before .before .before .args .s .now) (c .before .before .before .before .before .before .before .before .before .pre .0) (c .before .before .before .before .before .before .before .before .before .args .j) _ _ _ _ (c .before .before .before .before .before .before .before .byte-at .ensures .0) (c .before .goal-count .ensures .0 (c .before .before .before .before .before .before .before .before .before .pre .0)) (c .before .before .before .before .before .before .last-goal .ensures .0 (c .before .before .before .before .before .before .before .before .before .pre .0)) (c .before .before .before .before .before .pad .ensures) (c .before .before .before .before .before .before .before .before .before .args .goals .now) (c .seed .result) (c .before .before .before .before .before .before .before .before .before .pre .2) (c .seed .ensures)
+returns c = seeded-steps (c .before .before .before .before .before .before .before .before .before .args .s .now) (c .before .before .before .before .before .before .before .before .before .pre .0) (c .before .before .before .before .before .before .before .before .before .args .j) _ _ _ _ (c .before .before .before .before .before .before .before .byte-at .ensures .0) (c .before .goal-count .ensures .0) (c .before .before .before .before .before .before .last-goal .ensures .0) (c .before .before .before .before .before .pad .ensures) (c .before .before .before .before .before .before .before .before .before .args .goals .now) (c .seed .result) (c .before .before .before .before .before .before .before .before .before .pre .2) (c .seed .ensures)
 
 pub first-layer-spec : {M : Type 1} → statement M
 first-layer-spec =

@@ -44,7 +44,7 @@ loop-less : tie.Need-loop-less Inv-loop μ-loop
 loop-less c = omega arith
 
 loop-again : tie.Need-loop-again Inv-loop μ-loop
-loop-again c = (omega (arith, c .before .before .before .before .byte-at2 .ensures .0), simp length-set (c .before .before .before .loop .inv .1), each-more (λ x. padOf (read (c .before .before .before .before .before .before .before .args .s .now) .width) (startOf (read (c .before .before .before .before .before .before .before .args .s .now)) (carrier x))) (c .before .before .before .loop .starts) (c .before .before .before .loop .i) (c .pad .result) (omega (arith, c .before .before .before .loop .inv .1, count-range (c .before .before .before .before .before .before .before .args .s .now) (c .before .before .before .before .before .before .before .pre), c .before .before .before .before .byte-at2 .ensures .0)) (c .pad .ensures ∙ ap₂ padOf (c .before .before .before .before .before .byte-at .ensures .0) (c .before .start .ensures .0 (c .before .before .before .before .before .before .before .pre))) (c .before .before .before .loop .inv .2))
+loop-again c = (omega (arith, c .before .before .before .before .byte-at2 .ensures .0), simp length-set (c .before .before .before .loop .inv .1), each-more (λ x. padOf (read (c .before .before .before .before .before .before .before .args .s .now) .width) (startOf (read (c .before .before .before .before .before .before .before .args .s .now)) (carrier x))) (c .before .before .before .loop .starts) (c .before .before .before .loop .i) (c .pad .result) (omega (arith, c .before .before .before .loop .inv .1, count-range (c .before .before .before .before .before .before .before .args .s .now) (c .before .before .before .before .before .before .before .pre), c .before .before .before .before .byte-at2 .ensures .0)) (c .pad .ensures ∙ ap₂ padOf (c .before .before .before .before .before .byte-at .ensures .0) (c .before .start .ensures .0)) (c .before .before .before .loop .inv .2))
 
 returns : tie.Need-returns Inv-loop μ-loop
 returns c = λ x h. c .before .loop .inv .2 x (omega (arith, c .before .before .byte-at2 .ensures .0, c .loop-test .left))

@@ -55,7 +55,7 @@ returns c =
     let s = c .before .before .before .before .before .before .before .before .before .before .before .before .before .before .before .before .before .before .before .before .before .before .before .before .before .before .before .before .before .before .before .before .before in
     let h = s .pre .1 in
     line-is (read (now (s .args .s))) (s .args .i .0) (s .args .j .0) (c .before .before .before .before .before .before .before .before .before .before .before .before .before .before .before .before .before .before .before .before .before .before .before .before .before .before .before .before .finish .result) (now (s .args .path))
-    (c .before .before .before .before .before .before .before .before .before .before .before .before .before .before .before .before .before .before .before .before .before .before .before .before .before .before .before .before .finish .ensures ∙ ap (λ g. finishOn g (now (s .args .path))) (c .before .before .before .before .before .before .before .before .before .before .before .before .before .before .before .before .before .before .before .before .before .before .before .before .before .before .before .before .before .last-goal .ensures .0 (s .pre .0)))
+    (c .before .before .before .before .before .before .before .before .before .before .before .before .before .before .before .before .before .before .before .before .before .before .before .before .before .before .before .before .finish .ensures ∙ ap (λ g. finishOn g (now (s .args .path))) (c .before .before .before .before .before .before .before .before .before .before .before .before .before .before .before .before .before .before .before .before .before .before .before .before .before .before .before .before .before .last-goal .ensures .0))
     (wrote-then h
     (wrote-then h
     (wrote-then h

@@ -18,7 +18,7 @@ goal-count-requires : tie.Need-goal-count-requires
 goal-count-requires c κs = search needs
 
 step-requires : tie.Need-step-requires
-step-requires c κs = step-asks (c .before .before .before .before .before .before .before .before .args .s .now) (c .before .before .before .before .before .before .before .before .args .i) (c .before .before .before .before .before .before .before .before .args .j) (c .before .before .before .before .before .before .before .before .args .mask .now) (c .before .before .before .before .before .before .before .before .args .records .now) (c .before .before .before .before .before .before .before .before .pre .0) _ _ (c .before .before .before .before .byte-at .ensures .0) (c .before .before .goal-count .ensures .0 (c .before .before .before .before .before .before .before .before .pre .0 .accepted)) (c .before .before .before .before .before .before .before .before .args .goals .now) _ (c .before .before .before .byte-at2 .ensures .0) _ _ (omega (arith, horizon-most (c .before .before .before .before .before .before .before .before .pre .0))) (omega (arith, horizon-most (c .before .before .before .before .before .before .before .before .pre .0))) (c .before .before .before .before .before .before .before .before .pre .6 .chained) (back-index (c .before .before .before .before .before .before .before .before .args .s .now) (c .before .before .before .before .before .before .before .before .args .i) (c .before .before .before .before .before .before .before .before .args .j) (c .before .before .before .before .before .before .before .before .args .mask .now) (c .before .before .before .before .before .before .before .before .args .records .now) (c .before .before .before .before .before .before .before .before .pre .0) _ _ (c .before .before .before .before .byte-at .ensures .0) (c .before .before .goal-count .ensures .0 (c .before .before .before .before .before .before .before .before .pre .0 .accepted)) (c .before .before .before .before .before .before .before .before .args .goals .now) (c .before .before .before .before .before .before .before .before .pre .1)) (c .before .before .before .before .before .before .before .before .args .dst .now) (c .before .before .before .before .before .before .before .before .pre .5 .size)
+step-requires c κs = step-asks (c .before .before .before .before .before .before .before .before .args .s .now) (c .before .before .before .before .before .before .before .before .args .i) (c .before .before .before .before .before .before .before .before .args .j) (c .before .before .before .before .before .before .before .before .args .mask .now) (c .before .before .before .before .before .before .before .before .args .records .now) (c .before .before .before .before .before .before .before .before .pre .0) _ _ (c .before .before .before .before .byte-at .ensures .0) (c .before .before .goal-count .ensures .0) (c .before .before .before .before .before .before .before .before .args .goals .now) _ (c .before .before .before .byte-at2 .ensures .0) _ _ (omega (arith, horizon-most (c .before .before .before .before .before .before .before .before .pre .0))) (omega (arith, horizon-most (c .before .before .before .before .before .before .before .before .pre .0))) (c .before .before .before .before .before .before .before .before .pre .6 .chained) (back-index (c .before .before .before .before .before .before .before .before .args .s .now) (c .before .before .before .before .before .before .before .before .args .i) (c .before .before .before .before .before .before .before .before .args .j) (c .before .before .before .before .before .before .before .before .args .mask .now) (c .before .before .before .before .before .before .before .before .args .records .now) (c .before .before .before .before .before .before .before .before .pre .0) _ _ (c .before .before .before .before .byte-at .ensures .0) (c .before .before .goal-count .ensures .0) (c .before .before .before .before .before .before .before .before .args .goals .now) (c .before .before .before .before .before .before .before .before .pre .1)) (c .before .before .before .before .before .before .before .before .args .dst .now) (c .before .before .before .before .before .before .before .before .pre .5 .size)
 
 add-words : tie.Need-add-words
 add-words c = search needs
@@ -45,7 +45,7 @@ same-length : tie.Need-same-length
 same-length c = search needs
 
 returns : tie.Need-returns
-returns c = let x = back-holds (c .before .before .before .before .before .before .before .before .before .before .before .before .before .before .args .s .now) (c .before .before .before .before .before .before .before .before .before .before .before .before .before .before .args .i) (c .before .before .before .before .before .before .before .before .before .before .before .before .before .before .args .j) (c .before .before .before .before .before .before .before .before .before .before .before .before .before .before .args .mask .now) (c .before .before .before .before .before .before .before .before .before .before .before .before .before .before .args .records .now) (c .before .before .before .before .before .before .before .before .before .before .before .before .before .before .pre .0) _ _ (c .before .before .before .before .before .before .before .before .before .before .byte-at .ensures .0) (c .before .before .before .before .before .before .before .before .goal-count .ensures .0 (c .before .before .before .before .before .before .before .before .before .before .before .before .before .before .pre .0 .accepted)) (c .before .before .before .before .before .before .before .before .before .before .before .before .before .before .args .goals .now) (c .before .before .before .before .before .before .before .before .before .before .before .before .before .before .pre .1) _ (c .before .before .before .before .before .before .before .before .before .byte-at2 .ensures .0) (c .before .before .before .before .before .before .before .before .before .before .before .before .before .before .args .end) (c .before .before .before .before .before .before .before .before .before .before .before .before .before .before .args .t) (omega arith) (c .before .before .before .before .before .before .before .before .before .before .before .before .before .before .pre .4) (c .before .before .before .before .before .before .before .before .before .before .before .before .before .before .pre .5) (c .before .before .before .before .before .step .ensures) in (x, backed-next (c .before .before .before .before .before .before .before .before .before .before .before .before .before .before .args .s .now) (c .before .before .before .before .before .before .before .before .before .before .before .before .before .before .args .i) (c .before .before .before .before .before .before .before .before .before .before .before .before .before .before .args .j) (c .before .before .before .before .before .before .before .before .before .before .before .before .before .before .args .mask .now) (c .before .before .before .before .before .before .before .before .before .before .before .before .before .before .args .records .now) (c .before .before .before .before .before .before .before .before .before .before .before .before .before .before .pre .0) (c .before .before .before .before .before .before .before .before .before .before .before .before .before .before .args .end) (c .before .before .before .before .before .before .before .before .before .before .before .before .before .before .args .t) (c .before .before .before .before .before .before .before .before .before .before .before .before .before .before .args .heads .now) (omega arith) (c .before .before .before .before .before .before .before .before .before .before .before .before .before .before .pre .6) x (code-kept (c .before .before .before .before .before .before .before .before .before .before .before .before .before .before .args .s .now) (c .before .before .before .before .before .before .before .before .before .before .before .before .before .before .args .i) (c .before .before .before .before .before .before .before .before .before .before .before .before .before .before .args .j) (c .before .before .before .before .before .before .before .before .before .before .before .before .before .before .args .mask .now) (c .before .before .before .before .before .before .before .before .before .before .before .before .before .before .args .records .now) (c .before .before .before .before .before .before .before .before .before .before .before .before .before .before .pre .0) _ _ (c .before .before .before .before .before .before .before .before .before .before .byte-at .ensures .0) (c .before .before .before .before .before .before .before .before .before .byte-at2 .ensures .0) (c .before .before .before .before .before .before .before .before .before .before .before .before .before .before .args .t) (c .before .before .keep .ensures)))
+returns c = let x = back-holds (c .before .before .before .before .before .before .before .before .before .before .before .before .before .before .args .s .now) (c .before .before .before .before .before .before .before .before .before .before .before .before .before .before .args .i) (c .before .before .before .before .before .before .before .before .before .before .before .before .before .before .args .j) (c .before .before .before .before .before .before .before .before .before .before .before .before .before .before .args .mask .now) (c .before .before .before .before .before .before .before .before .before .before .before .before .before .before .args .records .now) (c .before .before .before .before .before .before .before .before .before .before .before .before .before .before .pre .0) _ _ (c .before .before .before .before .before .before .before .before .before .before .byte-at .ensures .0) (c .before .before .before .before .before .before .before .before .goal-count .ensures .0) (c .before .before .before .before .before .before .before .before .before .before .before .before .before .before .args .goals .now) (c .before .before .before .before .before .before .before .before .before .before .before .before .before .before .pre .1) _ (c .before .before .before .before .before .before .before .before .before .byte-at2 .ensures .0) (c .before .before .before .before .before .before .before .before .before .before .before .before .before .before .args .end) (c .before .before .before .before .before .before .before .before .before .before .before .before .before .before .args .t) (omega arith) (c .before .before .before .before .before .before .before .before .before .before .before .before .before .before .pre .4) (c .before .before .before .before .before .before .before .before .before .before .before .before .before .before .pre .5) (c .before .before .before .before .before .step .ensures) in (x, backed-next (c .before .before .before .before .before .before .before .before .before .before .before .before .before .before .args .s .now) (c .before .before .before .before .before .before .before .before .before .before .before .before .before .before .args .i) (c .before .before .before .before .before .before .before .before .before .before .before .before .before .before .args .j) (c .before .before .before .before .before .before .before .before .before .before .before .before .before .before .args .mask .now) (c .before .before .before .before .before .before .before .before .before .before .before .before .before .before .args .records .now) (c .before .before .before .before .before .before .before .before .before .before .before .before .before .before .pre .0) (c .before .before .before .before .before .before .before .before .before .before .before .before .before .before .args .end) (c .before .before .before .before .before .before .before .before .before .before .before .before .before .before .args .t) (c .before .before .before .before .before .before .before .before .before .before .before .before .before .before .args .heads .now) (omega arith) (c .before .before .before .before .before .before .before .before .before .before .before .before .before .before .pre .6) x (code-kept (c .before .before .before .before .before .before .before .before .before .before .before .before .before .before .args .s .now) (c .before .before .before .before .before .before .before .before .before .before .before .before .before .before .args .i) (c .before .before .before .before .before .before .before .before .before .before .before .before .before .before .args .j) (c .before .before .before .before .before .before .before .before .before .before .before .before .before .before .args .mask .now) (c .before .before .before .before .before .before .before .before .before .before .before .before .before .before .args .records .now) (c .before .before .before .before .before .before .before .before .before .before .before .before .before .before .pre .0) _ _ (c .before .before .before .before .before .before .before .before .before .before .byte-at .ensures .0) (c .before .before .before .before .before .before .before .before .before .byte-at2 .ensures .0) (c .before .before .before .before .before .before .before .before .before .before .before .before .before .before .args .t) (c .before .before .keep .ensures)))
 
 pub back-step-spec : {M : Type 1} → statement M
 back-step-spec =

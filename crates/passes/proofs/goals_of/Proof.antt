@@ -46,10 +46,10 @@ loop-less : tie.Need-loop-less Inv-loop μ-loop
 loop-less c = search needs
 
 loop-again : tie.Need-loop-again Inv-loop μ-loop
-loop-again c = (omega arith, simp length-set (c .before .before .before .loop .inv .1), each-more (λ m. padOf (read (c .before .before .before .before .before .before .before .args .s .now) .width) (getD (goalsOf (read (c .before .before .before .before .before .before .before .args .s .now)) (c .before .before .before .before .before .before .before .args .j)) m 0)) (c .before .before .before .loop .goals) (c .before .before .before .loop .k) _ (omega (arith, c .before .before .before .loop .inv .1, c .before .before .before .before .goal-count .ensures .1 .0 (c .before .before .before .before .before .before .before .pre))) (c .pad .ensures ∙ ap₂ padOf (c .before .before .before .before .before .byte-at .ensures .0) (c .before .goal .ensures .0 (c .before .before .before .before .before .before .before .pre))) (c .before .before .before .loop .inv .2))
+loop-again c = (omega arith, simp length-set (c .before .before .before .loop .inv .1), each-more (λ m. padOf (read (c .before .before .before .before .before .before .before .args .s .now) .width) (getD (goalsOf (read (c .before .before .before .before .before .before .before .args .s .now)) (c .before .before .before .before .before .before .before .args .j)) m 0)) (c .before .before .before .loop .goals) (c .before .before .before .loop .k) _ (omega (arith, c .before .before .before .loop .inv .1, c .before .before .before .before .goal-count .ensures .1 .0 (c .before .before .before .before .before .before .before .pre))) (c .pad .ensures ∙ ap₂ padOf (c .before .before .before .before .before .byte-at .ensures .0) (c .before .goal .ensures .0)) (c .before .before .before .loop .inv .2))
 
 returns : tie.Need-returns Inv-loop μ-loop
-returns c = let e : c .before .loop .k ≡ length (goalsOf (read (c .before .before .before .before .before .args .s .now)) (c .before .before .before .before .before .args .j)) = omega (arith, c .before .before .goal-count .ensures .0 (c .before .before .before .before .before .pre)) in record { many = refl; at = λ k h. c .before .loop .inv .2 k (omega arith) }
+returns c = let e : c .before .loop .k ≡ length (goalsOf (read (c .before .before .before .before .before .args .s .now)) (c .before .before .before .before .before .args .j)) = omega (arith, c .before .before .goal-count .ensures .0) in record { many = refl; at = λ k h. c .before .loop .inv .2 k (omega arith) }
 
 pub goals-of-spec : {M : Type 1} → statement M
 goals-of-spec =

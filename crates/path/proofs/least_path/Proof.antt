@@ -3,7 +3,7 @@ use borrow.Author.Needs.{needs}
 use mathlib.Core.Path.{sym, _∙_}
 use Prim.Native.Nat.{_-_}
 use lib.ListN.{length}
-use Rattle.path.proofs.Finding.{no-bound}
+use Rattle.by_passes.proofs.Finding.{no-bound}
 use Rattle.path.proofs.Calling.{no-cause, ready-of, room-of, call-refused, call-answered}
 use Rattle.path.proofs.least_path.Statement.{statement}
 use Rattle.path.proofs.least_path.Tie as tie

@@ -33,7 +33,7 @@ workspace-requires : tie.Need-workspace-requires
 workspace-requires c κs = search needs
 
 returns-5 : tie.Need-returns-5
-returns-5 c = cause-work (c .before .before .before .before .before .before .before .before .before .before .before .before .before .args .s .now) (c .before .before .before .before .before .before .before .before .before .before .before .before .before .args .i) (c .before .before .before .before .before .before .before .before .before .before .before .before .before .args .j) (c .before .before .before .before .before .before .before .before .before .before .before .before .before .args .work) (c .before .before .before .before .before .before .before .before .before .before .before .before .before .args .out) (c .before .before .before .before .before .before .before .before .before .before .before .before .before .args .records .now) (sym (c .before .before .before .before .before .before .before .before .before .before .cause .ensures) ∙ c .before .before .before .before .before .before .before .before .before .if1 .left) (omega (arith, c .before .before .before .before .before .before .before .before .byte-at .ensures .0, c .before .before .before .before .before .before .if2 .left)) (omega (arith, c .before .before .before .before .before .before .before .before .byte-at .ensures .0, c .before .before .before .before .if3 .left)) (sym (c .before .before .before .good-records .ensures) ∙ not-false _ (c .before .before .if4 .left)) (omega (arith, c .before .workspace .ensures .0 (sym (c .before .before .before .before .before .before .before .before .before .before .cause .ensures) ∙ c .before .before .before .before .before .before .before .before .before .if1 .left), c .if5 .taken))
+returns-5 c = cause-work (c .before .before .before .before .before .before .before .before .before .before .before .before .before .args .s .now) (c .before .before .before .before .before .before .before .before .before .before .before .before .before .args .i) (c .before .before .before .before .before .before .before .before .before .before .before .before .before .args .j) (c .before .before .before .before .before .before .before .before .before .before .before .before .before .args .work) (c .before .before .before .before .before .before .before .before .before .before .before .before .before .args .out) (c .before .before .before .before .before .before .before .before .before .before .before .before .before .args .records .now) (sym (c .before .before .before .before .before .before .before .before .before .before .cause .ensures) ∙ c .before .before .before .before .before .before .before .before .before .if1 .left) (omega (arith, c .before .before .before .before .before .before .before .before .byte-at .ensures .0, c .before .before .before .before .before .before .if2 .left)) (omega (arith, c .before .before .before .before .before .before .before .before .byte-at .ensures .0, c .before .before .before .before .if3 .left)) (sym (c .before .before .before .good-records .ensures) ∙ not-false _ (c .before .before .if4 .left)) (omega (arith, c .before .workspace .ensures .0, c .if5 .taken))
 
 byte-at-requires-2 : tie.Need-byte-at-requires-2
 byte-at-requires-2 c κs = search needs
@@ -42,10 +42,10 @@ add-if6 : tie.Need-add-if6
 add-if6 c = search needs
 
 returns-6 : tie.Need-returns-6
-returns-6 c = cause-out (c .before .before .before .before .before .before .before .before .before .before .before .before .before .before .before .args .s .now) (c .before .before .before .before .before .before .before .before .before .before .before .before .before .before .before .args .i) (c .before .before .before .before .before .before .before .before .before .before .before .before .before .before .before .args .j) (c .before .before .before .before .before .before .before .before .before .before .before .before .before .before .before .args .work) (c .before .before .before .before .before .before .before .before .before .before .before .before .before .before .before .args .out) (c .before .before .before .before .before .before .before .before .before .before .before .before .before .before .before .args .records .now) (sym (c .before .before .before .before .before .before .before .before .before .before .before .before .cause .ensures) ∙ c .before .before .before .before .before .before .before .before .before .before .before .if1 .left) (omega (arith, c .before .before .before .before .before .before .before .before .before .before .byte-at .ensures .0, c .before .before .before .before .before .before .before .before .if2 .left)) (omega (arith, c .before .before .before .before .before .before .before .before .before .before .byte-at .ensures .0, c .before .before .before .before .before .before .if3 .left)) (sym (c .before .before .before .before .before .good-records .ensures) ∙ not-false _ (c .before .before .before .before .if4 .left)) (omega (arith, c .before .before .before .workspace .ensures .0 (sym (c .before .before .before .before .before .before .before .before .before .before .before .before .cause .ensures) ∙ c .before .before .before .before .before .before .before .before .before .before .before .if1 .left), c .before .before .if5 .left)) (omega (arith, c .before .byte-at2 .ensures .0, c .if6 .taken))
+returns-6 c = cause-out (c .before .before .before .before .before .before .before .before .before .before .before .before .before .before .before .args .s .now) (c .before .before .before .before .before .before .before .before .before .before .before .before .before .before .before .args .i) (c .before .before .before .before .before .before .before .before .before .before .before .before .before .before .before .args .j) (c .before .before .before .before .before .before .before .before .before .before .before .before .before .before .before .args .work) (c .before .before .before .before .before .before .before .before .before .before .before .before .before .before .before .args .out) (c .before .before .before .before .before .before .before .before .before .before .before .before .before .before .before .args .records .now) (sym (c .before .before .before .before .before .before .before .before .before .before .before .before .cause .ensures) ∙ c .before .before .before .before .before .before .before .before .before .before .before .if1 .left) (omega (arith, c .before .before .before .before .before .before .before .before .before .before .byte-at .ensures .0, c .before .before .before .before .before .before .before .before .if2 .left)) (omega (arith, c .before .before .before .before .before .before .before .before .before .before .byte-at .ensures .0, c .before .before .before .before .before .before .if3 .left)) (sym (c .before .before .before .before .before .good-records .ensures) ∙ not-false _ (c .before .before .before .before .if4 .left)) (omega (arith, c .before .before .before .workspace .ensures .0, c .before .before .if5 .left)) (omega (arith, c .before .byte-at2 .ensures .0, c .if6 .taken))
 
 returns-7 : tie.Need-returns-7
-returns-7 c = cause-none (c .before .before .before .before .before .before .before .before .before .before .before .before .before .before .before .args .s .now) (c .before .before .before .before .before .before .before .before .before .before .before .before .before .before .before .args .i) (c .before .before .before .before .before .before .before .before .before .before .before .before .before .before .before .args .j) (c .before .before .before .before .before .before .before .before .before .before .before .before .before .before .before .args .work) (c .before .before .before .before .before .before .before .before .before .before .before .before .before .before .before .args .out) (c .before .before .before .before .before .before .before .before .before .before .before .before .before .before .before .args .records .now) (sym (c .before .before .before .before .before .before .before .before .before .before .before .before .cause .ensures) ∙ c .before .before .before .before .before .before .before .before .before .before .before .if1 .left) (omega (arith, c .before .before .before .before .before .before .before .before .before .before .byte-at .ensures .0, c .before .before .before .before .before .before .before .before .if2 .left)) (omega (arith, c .before .before .before .before .before .before .before .before .before .before .byte-at .ensures .0, c .before .before .before .before .before .before .if3 .left)) (sym (c .before .before .before .before .before .good-records .ensures) ∙ not-false _ (c .before .before .before .before .if4 .left)) (omega (arith, c .before .before .before .workspace .ensures .0 (sym (c .before .before .before .before .before .before .before .before .before .before .before .before .cause .ensures) ∙ c .before .before .before .before .before .before .before .before .before .before .before .if1 .left), c .before .before .if5 .left)) (omega (arith, c .before .byte-at2 .ensures .0, c .if6 .left))
+returns-7 c = cause-none (c .before .before .before .before .before .before .before .before .before .before .before .before .before .before .before .args .s .now) (c .before .before .before .before .before .before .before .before .before .before .before .before .before .before .before .args .i) (c .before .before .before .before .before .before .before .before .before .before .before .before .before .before .before .args .j) (c .before .before .before .before .before .before .before .before .before .before .before .before .before .before .before .args .work) (c .before .before .before .before .before .before .before .before .before .before .before .before .before .before .before .args .out) (c .before .before .before .before .before .before .before .before .before .before .before .before .before .before .before .args .records .now) (sym (c .before .before .before .before .before .before .before .before .before .before .before .before .cause .ensures) ∙ c .before .before .before .before .before .before .before .before .before .before .before .if1 .left) (omega (arith, c .before .before .before .before .before .before .before .before .before .before .byte-at .ensures .0, c .before .before .before .before .before .before .before .before .if2 .left)) (omega (arith, c .before .before .before .before .before .before .before .before .before .before .byte-at .ensures .0, c .before .before .before .before .before .before .if3 .left)) (sym (c .before .before .before .before .before .good-records .ensures) ∙ not-false _ (c .before .before .before .before .if4 .left)) (omega (arith, c .before .before .before .workspace .ensures .0, c .before .before .if5 .left)) (omega (arith, c .before .byte-at2 .ensures .0, c .if6 .left))
 
 pub refusal-spec : {M : Type 1} → statement M
 refusal-spec =

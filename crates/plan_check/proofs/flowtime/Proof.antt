@@ -11,8 +11,8 @@ use borrow.Kind.Array.{good-length, eInt}
 use borrow.Author.Needs.{needs}
 use Rattle.deck.specs.Lists.{pieces}
 use Rattle.deck.specs.Sheet.{read}
-use Rattle.collision.specs.Words.{Row}
-use Rattle.collision.proofs.Words.{row-within}
+use Rattle.collision_scan.specs.Words.{Row}
+use Rattle.collision_scan.proofs.Words.{row-within}
 use Rattle.meaning.proofs.Accepted.{accepted-horizon}
 use Rattle.plan_check.specs.Answers.{flowAnswer}
 use Rattle.sheet.proofs.Accepted.{count-range}

@@ -9,7 +9,7 @@ use Rattle.kernel.specs.Parts.{stayFrom}
 use Rattle.sheet.proofs.Accepted.{count-range}
 use Rattle.passes.specs.Ready.{Early}
 use Rattle.passes.proofs.Given.{few-records, times-small, horizon-most}
-use Rattle.path.proofs.Finding.{early-of}
+use Rattle.by_passes.proofs.Finding.{early-of}
 use Rattle.scratch.proofs.Seeking.{early-bound, tried-found, tried-cut, tried-later, part-inside, part-low, part-long}
 use Rattle.scratch.proofs.by_walk.Statement.{statement}
 use Rattle.scratch.proofs.by_walk.Tie as tie
@@ -47,7 +47,7 @@ loop-holds : tie.Need-loop-holds Inv-loop μ-loop
 loop-holds c =
     let u = c .before .before .before .before .before .before .before .before .before .before .before .before .args in
     let p = c .before .before .before .before .before .before .before .before .before .before .before .before .pre in
-    (early-of (u .s .now) (u .i) (u .j) (u .mask .now) (u .records .now) (p .0) (u .bound) (c .before .stay-from .result) (c .later .result) (p .1) (c .before .stay-from .ensures ∙ ap (λ (g : ℕ). stayFrom (u .i) g (constraintsOf (u .records .now))) (c .before .before .last-goal .ensures .0 (p .0 .accepted))) (c .later .ensures), refl, omega arith)
+    (early-of (u .s .now) (u .i) (u .j) (u .mask .now) (u .records .now) (p .0) (u .bound) (c .before .stay-from .result) (c .later .result) (p .1) (c .before .stay-from .ensures ∙ ap (λ (g : ℕ). stayFrom (u .i) g (constraintsOf (u .records .now))) (c .before .before .last-goal .ensures .0)) (c .later .ensures), refl, omega arith)
 
 same-length : tie.Need-same-length Inv-loop μ-loop
 same-length c = ap length (c .before .before .loop .inv .1)

@@ -16,7 +16,7 @@ accepted : (c : tie.Else1) → cause (c .before .before .before .args .s .now) �
 accepted c = sym (c .before .cause .ensures) ∙ c .if1 .left
 
 room : (c : tie.Else2) → workspaceFor (read (c .before .before .before .before .before .args .s .now)) ≤ c .before .before .before .before .before .args .work
-room c = omega (arith, c .if2 .left, c .before .workspace .ensures .0 (accepted (c .before .before)))
+room c = omega (arith, c .if2 .left, c .before .workspace .ensures .0)
 
 cause-requires : tie.Need-cause-requires
 cause-requires c κs = search needs
@@ -32,7 +32,7 @@ workspace-requires c κs = search needs
 returns-2 : tie.Need-returns-2
 returns-2 c =
     let s = c .before .before .before .before .before in
-    cause-work (s .args .s .now) (s .args .work) (s .args .out) (accepted (c .before .before)) (omega (arith, c .if2 .taken, c .before .workspace .ensures .0 (accepted (c .before .before))))
+    cause-work (s .args .s .now) (s .args .work) (s .args .out) (accepted (c .before .before)) (omega (arith, c .if2 .taken, c .before .workspace .ensures .0))
 
 byte-at-requires : tie.Need-byte-at-requires
 byte-at-requires c κs = search needs

@@ -50,7 +50,7 @@ loop-again c =
     let loop = c .before .before .before .loop in (
       omega (arith, c .before .before .loop-test .taken),
       length-set (loop .starts) (loop .i) (c .narrow .result) ∙ loop .inv .1,
-      starts-more (read (s .args .s .now)) (loop .starts) (loop .i) (c .narrow .result) (omega (arith, few c, loop .inv .1)) (loop .inv .2) (c .narrow .ensures ∙ c .before .start .ensures .0 (s .pre)),
+      starts-more (read (s .args .s .now)) (loop .starts) (loop .i) (c .narrow .result) (omega (arith, few c, loop .inv .1)) (loop .inv .2) (c .narrow .ensures ∙ c .before .start .ensures .0),
     )
 
 returns : tie.Need-returns Inv-loop μ-loop

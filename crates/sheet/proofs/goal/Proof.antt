@@ -18,7 +18,7 @@ returns c =
     let a = c .before .before .before .args in
     let e : c .nth-word .result ≡ getD (goalsOf (read (a .s .now)) (a .j)) (a .k) 0 =
     rw (c .nth-word .ensures .0, c .before .task-part .ensures .1 .1 .0) refl in
-    (λ ok. e, (λ ok. rw e (goal-on-grid (a .s .now) ok (a .j) (a .k)), c .nth-word .ensures .1))
+    (e, (λ ok. rw e (goal-on-grid (a .s .now) ok (a .j) (a .k)), c .nth-word .ensures .1))
 
 pub goal-spec : {M : Type 1} → statement M
 goal-spec = tie.close (tie.spec task-part-requires nth-word-requires returns)

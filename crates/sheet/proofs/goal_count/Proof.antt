@@ -11,7 +11,7 @@ returns : tie.Need-returns
 returns c =
     let a = c .before .before .args in
     let e = c .goals-number .ensures .0 in
-    (λ ok. e, (λ ok. rw e (goals-at-most (a .s .now) ok (a .j)), λ ok h. rw e (goals-range (a .s .now) ok (a .j .0) h .0)))
+    (e, (λ ok. rw e (goals-at-most (a .s .now) ok (a .j)), λ ok h. rw e (goals-range (a .s .now) ok (a .j .0) h .0)))
 
 pub goal-count-spec : {M : Type 1} → statement M
 goal-count-spec = tie.close (tie.spec goals-number-requires returns)

@@ -10,7 +10,7 @@ cell-requires c κs = search needs
 returns : tie.Need-returns
 returns c =
     let a = c .before .before .args in
-    (λ ok. c .cell .ensures, λ ok. rw (c .cell .ensures) (grid-flag (a .s .now) ok (a .v)))
+    (c .cell .ensures, λ ok. rw (c .cell .ensures) (grid-flag (a .s .now) ok (a .v)))
 
 pub grid-byte-spec : {M : Type 1} → statement M
 grid-byte-spec = tie.close (tie.spec cell-requires returns)

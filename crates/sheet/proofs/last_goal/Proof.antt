@@ -17,7 +17,7 @@ returns c =
     let a = c .before .before .before .args in
     let e : c .last-word .result ≡ lastGoal (read (a .s .now)) (a .j) =
     rw (c .last-word .ensures .0, c .before .task-part .ensures .1 .1 .0) refl in
-    (λ ok. e, (λ ok. rw e (last-goal-on-grid (a .s .now) ok (a .j)), c .last-word .ensures .1))
+    (e, (λ ok. rw e (last-goal-on-grid (a .s .now) ok (a .j)), c .last-word .ensures .1))
 
 pub last-goal-spec : {M : Type 1} → statement M
 last-goal-spec = tie.close (tie.spec task-part-requires last-word-requires returns)

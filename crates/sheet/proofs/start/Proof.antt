@@ -16,7 +16,7 @@ returns : tie.Need-returns
 returns c =
     let a = c .before .before .before .args in
     let e : c .nth-word .result ≡ startOf (read (a .s .now)) (a .i) = rw (c .nth-word .ensures .0, c .before .stretch .ensures .0) refl in
-    (λ ok. e, (λ ok. rw e (start-on-grid (a .s .now) ok (a .i)), c .nth-word .ensures .1))
+    (e, (λ ok. rw e (start-on-grid (a .s .now) ok (a .i)), c .nth-word .ensures .1))
 
 pub start-spec : {M : Type 1} → statement M
 start-spec = tie.close (tie.spec stretch-requires nth-word-requires returns)

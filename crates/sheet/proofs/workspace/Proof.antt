@@ -60,7 +60,7 @@ returns : tie.Need-returns
 returns c =
     let s = c .before .before .before .before .before .args .s .now in
     let e = formula s (c .before .word-at .ensures .0) (c .before .before .before .byte-at .ensures .0) (c .area .ensures .0) (c .before .before .most-goals .ensures .0) in
-    (λ ok. e, λ ok. rw e (workspace-bound s ok))
+    (e, λ ok. rw e (workspace-bound s ok))
 
 pub workspace-spec : {M : Type 1} → statement M
 workspace-spec =

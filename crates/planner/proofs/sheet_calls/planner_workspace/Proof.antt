@@ -14,7 +14,7 @@ workspace-requires c κs = search needs
 returns : tie.Need-returns
 returns c =
     let e = sym (c .before .before .cause .ensures) ∙ c .before .if1 .taken in
-    wanted (c .before .before .before .before .args .s .now) e (c .workspace .ensures .0 e)
+    wanted (c .before .before .before .before .args .s .now) e (c .workspace .ensures .0)
 
 returns-2 : tie.Need-returns-2
 returns-2 c = not-wanted (c .before .before .before .args .s .now) (λ e. c .if1 .left (c .before .cause .ensures ∙ e))

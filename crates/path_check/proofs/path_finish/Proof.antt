@@ -1,0 +1,109 @@
+-- `path_check::path_finish` meets its contract: each way out is a law of the tests that led there. Assumes nothing.
+use Prim.Native.Nat.{suc}
+use mathlib.Core.Path.{_≡_, sym, ap, _∙_}
+use mathlib.Core.Bool.{true}
+use native.Mathlib.Omega.{arith}
+use lib.ListN.{length, getD}
+use denote.Ref.{now}
+use borrow.Author.Tests.{not-true, not-false}
+use Rattle.deck.specs.Lists.{isNil}
+use Rattle.deck.specs.Sheet.{read, startOf, goalsOf, horizonOf}
+use Rattle.deck.specs.Paths.{left, finish, finishOf}
+use Rattle.deck.specs.PlanCheck.{follows}
+use Rattle.deck.specs.declared.PathAnswer.the-variants.{Found}
+use Rattle.path_check.proofs.Walks.{not-begun, not-going, not-visited, not-finished, finished}
+use borrow.Author.Needs.{needs}
+use Rattle.path_check.proofs.path_finish.Statement.{statement}
+use Rattle.path_check.proofs.path_finish.Tie as tie
+
+long : (s : tie.Start) → length (now (s .args .path)) ≡ suc (horizonOf (now (s .args .s)))
+long s = s .pre .3 ∙ ap suc (s .pre .2)
+
+-- what each test leaves known
+abbrev start-of : tie.Else1 → tie.Start
+start-of c = c .before .before .before .before .before .before
+
+begun : (c : tie.Else1) → getD (now (start-of c .args .path)) 0 0 ≡ startOf (read (now (start-of c .args .s))) (start-of c .args .i)
+begun c = sym (c .before .before .wide .ensures .0) ∙ c .if1 .left ∙ c .before .start .ensures .0
+
+going : (c : tie.Else2) → follows (read (now (start-of (c .before .before) .args .s))) (now (start-of (c .before .before) .args .path)) ≡ true
+going c = sym (c .before .goes .ensures) ∙ not-false _ (c .if2 .left)
+
+visited : (c : tie.Else3)
+    → isNil (left (now (start-of (c .before .before .before .before) .args .path)) (goalsOf (read (now (start-of (c .before .before .before .before) .args .s))) (start-of (c .before .before .before .before) .args .j))) ≡ true
+visited c = sym (c .before .visits-all .ensures) ∙ not-false _ (c .if3 .left)
+
+finish-is : (c : tie.After-finish) → let s = start-of (c .before .before .before .before .before .before) in c .finish .result ≡ finishOf (read (now (s .args .s))) (s .args .j) (now (s .args .path))
+finish-is c =
+    let s = start-of (c .before .before .before .before .before .before) in
+    c .finish .ensures ∙ ap (λ g. finish g (now (s .args .path))) (c .before .last-goal .ensures .0)
+
+shared-slice-read-wide : tie.Need-shared-slice-read-wide
+shared-slice-read-wide c = search needs
+
+wide-requires : tie.Need-wide-requires
+wide-requires c κs = search needs
+
+start-requires : tie.Need-start-requires
+start-requires c κs = search needs
+
+returns : tie.Need-returns
+returns c =
+    let s = c .before .before .before .before .before .before in
+    not-begun _ _ _ _ (long s) (λ e. c .if1 .taken (c .before .before .wide .ensures .0 ∙ e ∙ sym (c .before .start .ensures .0)))
+
+goes-requires : tie.Need-goes-requires
+goes-requires c κs = search needs
+
+returns-2 : tie.Need-returns-2
+returns-2 c =
+    let b = c .before .before in
+    not-going _ _ _ _ (long (start-of b)) (begun b) (sym (c .before .goes .ensures) ∙ not-true _ (c .if2 .taken))
+
+visits-all-requires : tie.Need-visits-all-requires
+visits-all-requires c κs = search needs
+
+returns-3 : tie.Need-returns-3
+returns-3 c =
+    let g = c .before .before in
+    let b = g .before .before in
+    not-visited _ _ _ _ (long (start-of b)) (begun b) (going g) (sym (c .before .visits-all .ensures) ∙ not-true _ (c .if3 .taken))
+
+last-goal-requires : tie.Need-last-goal-requires
+last-goal-requires c κs = search needs
+
+finish-requires : tie.Need-finish-requires
+finish-requires c κs = search needs
+
+returns-4 : tie.Need-returns-4
+returns-4 c =
+    let v = c .before .before .before in
+    let g = v .before .before in
+    let b = g .before .before in
+    let s = start-of b in
+    not-finished _ _ _ _ (long s) (begun b) (going g) (visited v) (omega (arith, c .if4 .taken, finish-is (c .before), s .pre .2))
+
+returns-5 : tie.Need-returns-5
+returns-5 c =
+    let v = c .before .before .before in
+    let g = v .before .before in
+    let b = g .before .before in
+    let s = start-of b in
+    ap Found (finish-is (c .before)) ∙ finished _ _ _ _ (long s) (begun b) (going g) (visited v) (omega (arith, c .if4 .left, finish-is (c .before), s .pre .2))
+
+pub path-finish-spec : {M : Type 1} → statement M
+path-finish-spec =
+    tie.close
+    (tie.spec
+    shared-slice-read-wide
+    wide-requires
+    start-requires
+    returns
+    goes-requires
+    returns-2
+    visits-all-requires
+    returns-3
+    last-goal-requires
+    finish-requires
+    returns-4
+    returns-5)
