@@ -1,17 +1,18 @@
 -- Prices that serve the least assignment: those of the solver on plain weights, or rounded ones that pass the test. Row plus column
 -- price is then at most each entry that is not barred, and equals it on the chosen ones. Assumes nothing.
 use Prim.Native.Nat.{ℕ, _+_, _≤_, _<_}
-use mathlib.Core.Path.{_≡_, refl, sym, ap, _∙_}
-use mathlib.Core.Logic.{_⊎_, inl, inr, ⊎-elim}
+use mathlib.Core.Path.{_≡_, refl, sym, ap, subst, _∙_}
+use mathlib.Core.Logic.{_⊎_, inl, inr, ⊎-elim, _≢_}
 use mathlib.Core.Bool.{true, false}
 use mathlib.Core.List.{List, map}
 use mathlib.Core.Option.{some}
 use native.Mathlib.Omega.{arith}
 use lib.ListN.{getD, take, List·getD-append}
-use lib.IntN.{ℤ, pos, _+ℤ_}
+use lib.IntN.{ℤ, pos, _+ℤ_, _-ℤ_, -ℤ-+ℤ-cancel}
+use lib.Signed.{_≤ℤ_}
 use Rattle.deck.specs.Lists.{below, sum}
 use Rattle.deck.specs.Assignments.{barred, entryAt, sumOf, leastAssignment, Priced}
-use Rattle.deck.specs.Calls.{taskList, ZeroFrom, assignmentKind, assignmentTasks}
+use Rattle.deck.specs.Calls.{taskList, assignmentKind, assignmentTasks}
 use Rattle.deck.specs.declared.AssignmentKind.the-variants.{Least}
 use Rattle.meaning.specs.Meaning.{_at_, Assignment, Unbarred, Less}
 use Rattle.meaning.proofs.Assignments.{least-assignment-meant, sum-at}
@@ -22,11 +23,11 @@ use Rattle.prices.proofs.Squares.{square-at}
 use Rattle.prices.proofs.Growth.{lower}
 use Rattle.prices.proofs.Duality.{least-tight}
 use Rattle.prices.proofs.First.{weigh-open, light-unbarred, unbarred-cost, unbarred-light}
-use Rattle.hungarian.specs.Solving.{Solved}
+use Rattle.hungarian.specs.Solving.{byCarrier, byTask, Solved}
 use Rattle.tables.specs.Copies.{Weighed}
-use Rattle.assignment.specs.Answers.{priceOf, Chosen, Serves, Tightly, Answered}
+use Rattle.assignment.specs.Answers.{dearest, highest, plainOf, rowOf, columnOf, tightOf, Prices, Serves, Handed, Chosen, Answered}
 use Rattle.candidates.proofs.Firsts.{weigh-low, copied-at, copied-words, weights-cost, solved-assignment, solved-tight}
-use Rattle.assignment.proofs.Priced.{price-small, dual-le, dual-tight}
+use Rattle.assignment.proofs.Priced.{neg-below, dual-le, dual-tight}
 
 module _ (m : ℕ) (small : m ≤ 12) (t w u v task carrier : List ℕ) (W : Weighed m false t w) (S : Solved m w m u v task carrier) where
   abbrev table : List ℕ
@@ -79,75 +80,81 @@ module _ (m : ℕ) (small : m ≤ 12) (t w u v task carrier : List ℕ) (W : Wei
     solved-serves = record {
       feasible = λ i j li lj. rw (← weight-at i j li lj) (S .matches .feasible i j li lj);
       tight = tight;
-      low = λ k lk. let p = prices-low k lk in (omega arith, omega arith);
-      words = λ i li. words i (a at i) li (open-a .0 .tasks i li);
     }
 
--- ROUNDED PRICES, of which the rows' are tight on the tasks
-module _ (m : ℕ) (t tasks u v a : List ℕ) (least : leastAssignment m (copied m t) ≡ some a) (own : tasks ≡ taskList a) where
+    pub solved-low : (k : ℕ) → k < m → (u at k ≤ dearest) × (v at k ≤ dearest)
+    solved-low k lk = let p = prices-low k lk in (omega arith, omega arith)
+
+-- THE SECOND RUN'S PRICES, as they are handed out
+module _ (m : ℕ) (table prices a : List ℕ) (least : leastAssignment m table ≡ some a) (P : Serves m table a (byCarrier prices) (byTask prices)) (rows columns : List ℤ)
+    (R : Prices m highest (rowOf prices) rows) (C : Prices m dearest (columnOf false prices) columns) where
+  pub solved-handed : Handed m table a rows columns
+  solved-handed = record {
+    priced = record {
+      feasible = λ i j li lj n. rw (R .each i li, C .each j lj)
+          (dual-le (byCarrier prices at i) (byTask prices at j) (entryAt m table i j) (omega (arith, P .feasible i j li lj, weigh-open (entryAt m table i j) n)));
+      tight = λ i li. rw (R .each i li, C .each (a at i) (least-assignment-meant m table a least .0 .0 .tasks i li))
+          (dual-tight (byCarrier prices at i) (byTask prices at (a at i)) (entryAt m table i (a at i)) (P .tight i li));
+      below = λ j lj. rw (C .each j lj) (neg-below (byTask prices at j));
+    };
+    small = (R .small, C .small);
+    zero = (R .zero, C .zero);
+  }
+
+-- ROUNDED PRICES that pass the test
+module _ (m : ℕ) (t tasks a : List ℕ) (least : leastAssignment m (copied m t) ≡ some a) (own : tasks ≡ taskList a) where
   meant : Unbarred m (copied m t) a
   meant = least-assignment-meant m (copied m t) a least .0
 
-  pub tasks-at : (i : ℕ) → i < m → tasks at i ≡ a at i
+  tasks-at : (i : ℕ) → i < m → tasks at i ≡ a at i
   tasks-at i li = rw own (List·getD-append a _ 0 i (rw (meant .0 .as-many) li))
 
-  pub tasks-few : m ≤ 12 → (i : ℕ) → i < m → tasks at i < 12
-  tasks-few small i li = omega (arith, tasks-at i li, meant .0 .tasks i li)
+  pub tasks-few : (i : ℕ) → i < m → tasks at i < m
+  tasks-few i li = omega (arith, tasks-at i li, meant .0 .tasks i li)
 
-  pub rounded-serves : ((i : ℕ) → i < m → Tightly t tasks v i (u at i)) → ((k : ℕ) → v at k ≤ 3000000)
-      → ((i j : ℕ) → i < m → j < m → u at i ≤ weigh (cell t i j) + v at j) → Serves m (copied m t) a u v
-  rounded-serves T low F = record {
-    feasible = λ i j li lj. rw (square-at m (cell t) i j li lj) (F i j li lj);
-    tight = λ i li. at-entry i li;
-    low = λ k lk. let p = T k lk .low in let q = low k in (omega arith, omega arith);
-    words = λ i li. rw (entry-at i li) (T i li .word);
-  }
-    where
-      entry-at : (i : ℕ) → i < m → entryAt m (copied m t) i (a at i) ≡ cell t i (tasks at i)
-      entry-at i li = square-at m (cell t) i (a at i) li (meant .0 .tasks i li) ∙ ap (cell t i) (sym (tasks-at i li))
+  module _ (merged : List ℕ) (rows columns : List ℤ) (C : Prices m dearest (columnOf true merged) columns) (R : Prices m highest (tightOf t tasks columns) rows)
+      (F : (i j : ℕ) → i < m → j < m → (getD rows i (pos 0) +ℤ getD columns j (pos 0)) ≤ℤ pos (weigh (cell t i j))) where
+    rounded-feasible : (i j : ℕ) → i < m → j < m → entryAt m (copied m t) i j ≢ barred → (getD rows i (pos 0) +ℤ getD columns j (pos 0)) ≤ℤ pos (entryAt m (copied m t) i j)
+    rounded-feasible i j li lj n =
+        let e = square-at m (cell t) i j li lj in
+        subst (λ (x : ℕ). (getD rows i (pos 0) +ℤ getD columns j (pos 0)) ≤ℤ pos x) (ap weigh (sym e) ∙ weigh-open (entryAt m (copied m t) i j) n) (F i j li lj)
 
-      at-entry : (i : ℕ) → i < m → u at i ≡ entryAt m (copied m t) i (a at i) + v at (a at i)
-      at-entry i li =
-          T i li .tight
-          ∙ ap (λ (x : ℕ). weigh x + v at (tasks at i)) (sym (entry-at i li))
-          ∙ ap (λ (x : ℕ). weigh (entryAt m (copied m t) i (a at i)) + v at x) (tasks-at i li)
-          ∙ ap (λ (x : ℕ). x + v at (a at i)) (weigh-open (entryAt m (copied m t) i (a at i)) (meant .1 i li))
+    rounded-tight : (i : ℕ) → i < m → (getD rows i (pos 0) +ℤ getD columns (a at i) (pos 0)) ≡ pos (entryAt m (copied m t) i (a at i))
+    rounded-tight i li =
+        let q = tasks-at i li in
+        let e = square-at m (cell t) i (a at i) li (meant .0 .tasks i li) in
+        let row : getD rows i (pos 0) ≡ (pos (cell t i (a at i)) -ℤ getD columns (a at i) (pos 0)) = R .each i li ∙ ap (λ (k : ℕ). pos (cell t i k) -ℤ getD columns k (pos 0)) q in
+        ap (λ (z : ℤ). z +ℤ getD columns (a at i) (pos 0)) row ∙ -ℤ-+ℤ-cancel (pos (cell t i (a at i))) (getD columns (a at i) (pos 0)) ∙ ap pos (sym e)
+
+    pub rounded-handed : Handed m (copied m t) a rows columns
+    rounded-handed = record {
+      priced = record { feasible = rounded-feasible; tight = rounded-tight; below = λ j lj. rw (C .each j lj) (neg-below (plainOf true (byTask merged at j))) };
+      small = (R .small, C .small);
+      zero = (R .zero, C .zero);
+    }
 
 -- THE ANSWER
-module _ (m : ℕ) (table u v a : List ℕ) (least : leastAssignment m table ≡ some a) (P : Serves m table a u v) where
+module _ (m : ℕ) (table a : List ℕ) (least : leastAssignment m table ≡ some a) (rows columns : List ℤ) (H : Handed m table a rows columns) where
   open-least : Unbarred m table a
   open-least = least-assignment-meant m table a least .0
 
-  module _ (rows columns : List ℤ) (R : (k : ℕ) → k < m → getD rows k (pos 0) ≡ priceOf false (u at k))
-      (C : (k : ℕ) → k < m → getD columns k (pos 0) ≡ priceOf true (v at k)) where
-    prices-tight : (i : ℕ) → i < m → (getD rows i (pos 0) +ℤ getD columns (a at i) (pos 0)) ≡ pos (entryAt m table i (a at i))
-    prices-tight i li = rw (R i li, C (a at i) (open-least .0 .tasks i li)) (dual-tight (u at i) (v at (a at i)) (entryAt m table i (a at i)) (P .tight i li))
+  task-at : (i : ℕ) → i < m → taskList a at i ≡ a at i
+  task-at i li = List·getD-append a _ 0 i (rw (open-least .0 .as-many) li)
 
-    pub prices-right : Priced m table a rows columns
-    prices-right = record {
-      feasible = λ i j li lj n. rw (R i li, C j lj) (dual-le (u at i) (v at j) (entryAt m table i j)
-          (omega (arith, P .feasible i j li lj, weigh-open (entryAt m table i j) n)));
-      tight = prices-tight;
-    }
+  -- the prices of the chosen entries add up to the sum
+  pub prices-chosen : Chosen m rows columns (taskList a) (λ i. entryAt m table i (a at i))
+  prices-chosen = record {
+    low = λ i li. rw (task-at i li) (open-least .0 .tasks i li);
+    priced = λ i li. rw (task-at i li) (H .priced .tight i li);
+    small = H .small;
+  }
 
-    -- the prices of the chosen entries add up to the sum
-    task-at : (i : ℕ) → i < m → taskList a at i ≡ a at i
-    task-at i li = List·getD-append a _ 0 i (rw (open-least .0 .as-many) li)
-
-    pub prices-chosen : Chosen m rows columns (taskList a) (λ i. entryAt m table i (a at i))
-    prices-chosen = record {
-      low = λ i li. rw (task-at i li) (open-least .0 .tasks i li);
-      priced = λ i li. rw (task-at i li) (prices-tight i li);
-      word = P .words;
-      small = λ k lk. (rw (R k lk) (price-small false (u at k) (P .low k lk .0)), rw (C k lk) (price-small true (v at k) (P .low k lk .1)));
-    }
-
-    -- THE WHOLE ANSWER
-    pub answered : (s : ℕ) → s ≡ sum (map (λ i. entryAt m table i (a at i)) (below m)) → ZeroFrom m rows → ZeroFrom m columns
-        → Answered m table (record { kind = Least s; tasks = taskList a; rows = rows; columns = columns })
-    unfolding assignmentKind assignmentTasks
-    answered s e Z Y = record {
-      kind = rw least (ap Least (e ∙ sym (sum-at m table a (open-least .0 .as-many))));
-      tasks = rw least refl;
-      prices = rw least (prices-right, Z, Y);
-    }
+  -- THE WHOLE ANSWER
+  pub answered : (s : ℕ) → s ≡ sum (map (λ i. entryAt m table i (a at i)) (below m))
+      → Answered m table (record { kind = Least s; tasks = taskList a; rows = rows; columns = columns })
+  unfolding assignmentKind assignmentTasks
+  answered s e = record {
+    kind = rw least (ap Least (e ∙ sym (sum-at m table a (open-least .0 .as-many))));
+    tasks = rw least refl;
+    prices = rw least (H .priced, H .zero .0, H .zero .1);
+  }

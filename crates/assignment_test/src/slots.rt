@@ -1,6 +1,7 @@
 // The assignments in order, from the slots of at most 8 roots, 12 to a root.
 use crate::list;
 use candidates::Candidate;
+use deck::Carrier;
 use libc::STDOUT_FILENO;
 ghost use Prim.Native.Nat.{_≤_, _<_};
 
@@ -28,7 +29,7 @@ fn slot(m: usize, t: &[u16; 144], root: Root, j: usize) -> Candidate
     if 12 <= tasks[j] {
         return nothing();
     }
-    candidates::slot_candidate(m, t, &tasks, root.row, &closed, j)
+    candidates::slot_candidate(m, t, &tasks, Carrier(root.row), &closed, Carrier(j))
 }
 
 // The root of the candidate c of a root's slot j.
@@ -41,7 +42,7 @@ fn next_root(root: Root, c: Candidate, j: usize) -> Root
         return root;
     }
     let next = c.tasks;
-    let k = candidates::slot_closed(&tasks, root.row, &closed, j);
+    let k = candidates::slot_closed(&tasks, Carrier(root.row), &closed, Carrier(j));
     Root {
         tasks: next,
         row: j,

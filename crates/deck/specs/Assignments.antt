@@ -55,12 +55,14 @@ assignmentsInOrder m table = inOrder (sumOf m table) (allowed m table)
 unfoldable pub leastAssignment : ℕ → List ℕ → Option (List ℕ)
 leastAssignment m table = headOf (assignmentsInOrder m table)
 
--- "row plus column price is at most each unbarred entry and equals it on the chosen ones. Which prices is free"
+-- "row plus column price is at most each unbarred entry and equals it on the chosen ones. Which prices is free"; "dual feasibility
+-- stated at zero and below": more than the condition is promised, each column price is at most 0
 pub record Priced (m : ℕ) (table tasks : List ℕ) (rows columns : List ℤ) : Type 0 where
   pub feasible : (i j : ℕ) → i < m → j < m → entryAt m table i j ≢ barred
       → (getD rows i (pos 0) +ℤ getD columns j (pos 0)) ≤ℤ pos (entryAt m table i j)
   pub tight : (i : ℕ) → i < m
       → (getD rows i (pos 0) +ℤ getD columns (getD tasks i 0) (pos 0)) ≡ pos (entryAt m table i (getD tasks i 0))
+  pub below : (j : ℕ) → j < m → getD columns j (pos 0) ≤ℤ pos 0
 
 unfoldable pub entryOf : Sheet → Task → Option (List ℕ) → ℕ
 entryOf d j none = barred

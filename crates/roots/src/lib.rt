@@ -2,6 +2,7 @@
 // its first assignment. The next assignment in order is the first of these; a tournament tree over the numbers of the nodes says
 // which slot has it.
 use candidates::Candidate;
+use deck::Carrier;
 ghost use mathlib.Core.Path.{_≡_};
 ghost use mathlib.Core.List.{List};
 ghost use mathlib.Core.Option.{some};
@@ -278,7 +279,7 @@ pub fn take_slot(work: &mut [u32], n: usize, j: usize) -> RootPart
     RootPart {
         tasks: first,
         row: j,
-        closed: candidates::slot_closed(&tasks, row, &closed, j),
+        closed: candidates::slot_closed(&tasks, Carrier(row), &closed, Carrier(j)),
     }
 }
 
@@ -304,7 +305,7 @@ pub fn fill_slots(work: &mut [u32], m: usize, t: &[u16; 144], n: usize)
     let row = records::row_of(work, n);
     let closed = records::closed_of(work, n);
     for j in row..m {
-        let c = candidates::slot_candidate(m, t, &tasks, row, &closed, j);
+        let c = candidates::slot_candidate(m, t, &tasks, Carrier(row), &closed, Carrier(j));
         store_slot(work, n, j, c);
     }
 }

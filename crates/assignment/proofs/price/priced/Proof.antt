@@ -1,39 +1,33 @@
 -- `assignment::price::priced` meets its contract. Assumes nothing.
-use mathlib.Core.List.{[]}
 use borrow.Author.Needs.{needs}
-use Rattle.assignment.proofs.Duals.{tasks-few, rounded-serves}
+use mathlib.Core.Path.{sym}
+use mathlib.Core.Bool.{false≢true}
+use Rattle.assignment.proofs.Duals.{tasks-few, rounded-handed}
 use Rattle.assignment.proofs.price.priced.Statement.{statement}
 use Rattle.assignment.proofs.price.priced.Tie as tie
 
-rounded-columns-requires : tie.Need-rounded-columns-requires
-rounded-columns-requires c κs = search needs
+column-prices-requires : tie.Need-column-prices-requires
+column-prices-requires c κs = (c .pre .0, λ e. absurd (false≢true (sym e)))
 
 tight-rows-requires : tie.Need-tight-rows-requires
 tight-rows-requires c κs =
     let r = c .before .before in
     let s = r .before in
     let a = s .pre .1 in
-    (s .pre .0, tasks-few (s .args .m) (s .args .t .now) (s .args .t3) [] [] (a .0) (a .1) (a .2) (s .pre .0), r .rounded-columns .ensures)
+    (s .pre .0, tasks-few (s .args .m) (s .args .t .now) (s .args .t3) (a .0) (a .1) (a .2), r .column-prices .ensures .small)
 
 all-serve-requires : tie.Need-all-serve-requires
 all-serve-requires c κs = search needs
 
 answer-requires : tie.Need-answer-requires
 answer-requires c κs =
-    let e = c .before .before .before in
-    let k = c .before .before .before .before .before .before in
+    let k = c .before .before .before .before in
     let r = k .before .before .before in
     let s = r .before in
-    let a = s .pre .1 in (
-      s .pre .0,
-      (
-        a .0,
-        a .1,
-        a .2,
-        rounded-serves (s .args .m) (s .args .t .now) (s .args .t3) (k .tight-rows .result) (r .rounded-columns .result) (a .0) (a .1) (a .2)
-            (k .tight-rows .ensures) (r .rounded-columns .ensures) (e .all-serve .ensures (c .before .before .if1 .taken)),
-      ),
-    )
+    let a = s .pre .1 in
+    let H = rounded-handed (s .args .m) (s .args .t .now) (s .args .t3) (a .0) (a .1) (a .2) (s .args .merged .now) (k .tight-rows .result) (r .column-prices .result)
+        (r .column-prices .ensures) (k .tight-rows .ensures) (c .before .all-serve .ensures (c .if1 .taken)) in
+    (s .pre .0, (a .0, a .1, a .2, H))
 
 returns : tie.Need-returns
 returns c = search needs
@@ -48,7 +42,7 @@ pub priced-spec : {M : Type 1} → statement M
 priced-spec =
     tie.close
     (tie.spec
-    rounded-columns-requires
+    column-prices-requires
     tight-rows-requires
     all-serve-requires
     answer-requires

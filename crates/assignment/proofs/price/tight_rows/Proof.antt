@@ -1,55 +1,57 @@
 -- `assignment::price::tight_rows` meets its contract. Assumes nothing.
-use Prim.Native.Nat.{_≤_, _-_}
-use mathlib.Core.Path.{refl}
+use Prim.Native.Nat.{ℕ, _≤_, _<_, _-_}
+use mathlib.Core.Path.{_≡_, ap, ap₂, subst, sym, _∙_}
 use native.Mathlib.Omega.{arith}
-use Rattle.assignment.proofs.Priced.{TightTo, tight-more, tightly}
+use lib.ListN.{getD}
+use lib.IntN.{ℤ, pos, _-ℤ_}
+use lib.Signed.{mag}
+use mir.Syntax.{w32}
+use mir.ValLaws.{toZ-ofZ}
+use mir.Val.{toZ, ofZ}
+use Rattle.meaning.specs.Meaning.{_at_}
+use Rattle.prices.specs.Square.{cell}
+use Rattle.assignment.specs.Answers.{dearest, highest, tightOf}
+use Rattle.assignment.proofs.Priced.{PricesTo, prices-none, prices-more, prices-all}
 use Rattle.assignment.proofs.price.tight_rows.Statement.{statement}
 use Rattle.assignment.proofs.price.tight_rows.Tie as tie
 
 abbrev Inv-loop : tie.InvT-loop
-Inv-loop m t tasks v u₀ i₀ u i = (i ≤ m) × TightTo t tasks v i u
+Inv-loop m t tasks columns r₀ i₀ r i = (i ≤ m) × PricesTo highest (tightOf t tasks columns) i r
 
 abbrev μ-loop : tie.MeasureT-loop
-μ-loop m t tasks v u₀ i₀ u i = m - i
+μ-loop m t tasks columns r₀ i₀ r i = m - i
+
+-- the task at hand, and the price of its column
+low : (k : tie.After-task-of Inv-loop μ-loop) → k .task-of .result .0 < k .before .before .before .args .m
+low k =
+    let l = k .before .before in
+    rw (k .task-of .ensures .0) (l .before .pre .1 (l .loop .i) (k .before .loop-test .taken))
+
+small : (k : tie.After-task-of Inv-loop μ-loop) → mag (getD (k .before .before .before .args .columns .now) (k .task-of .result .0) (pos 0)) ≤ dearest
+small k = k .before .before .before .pre .2 (k .task-of .result .0) (low k)
 
 loop-holds : tie.Need-loop-holds Inv-loop μ-loop
-loop-holds c = (omega arith, record { size = refl; done = λ i l. absurd (omega arith) })
+loop-holds c = (omega arith, prices-none _ _)
 
-element-copy-out-wide : tie.Need-element-copy-out-wide Inv-loop μ-loop
-element-copy-out-wide c = omega arith
-
-wide-requires : tie.Need-wide-requires Inv-loop μ-loop
-wide-requires c κs = tt
+task-of-requires : tie.Need-task-of-requires Inv-loop μ-loop
+task-of-requires c κs = omega arith
 
 entry-requires : tie.Need-entry-requires Inv-loop μ-loop
-entry-requires c κs =
-    let l = c .before .before .before in
-    (omega arith, rw (c .wide .ensures .0) (l .before .pre .1 (l .loop .i) (c .before .before .loop-test .taken)))
+entry-requires c κs = (omega arith, omega (arith, low c))
 
-weigh-requires : tie.Need-weigh-requires Inv-loop μ-loop
-weigh-requires c κs = tt
+column-of-requires : tie.Need-column-of-requires Inv-loop μ-loop
+column-of-requires c κs = (omega (arith, low (c .before)), small (c .before))
 
-mul-u : tie.Need-mul-u Inv-loop μ-loop
-mul-u c =
-    let l = c .before .before .before .before .before in
-    omega (arith, c .before .before .wide .ensures .1)
+tight-requires : tie.Need-tight-requires Inv-loop μ-loop
+tight-requires c κs =
+    let k = c .before .before in
+    rw (toZ-ofZ w32 _ (record { sfits = c .column-of .ok }), c .column-of .ensures) (small k)
 
-element-copy-out-u : tie.Need-element-copy-out-u Inv-loop μ-loop
-element-copy-out-u c =
-    let w = c .before .before in
-    let l = w .before .before .before in
-    rw (w .wide .ensures .0) (l .before .pre .1 (l .loop .i) (w .before .before .loop-test .taken))
+mul-r : tie.Need-mul-r Inv-loop μ-loop
+mul-r c = omega arith
 
-add-u : tie.Need-add-u Inv-loop μ-loop
-add-u c =
-    let w = c .before .before .before in
-    omega (arith, c .before .weigh .ensures .2, w .before .before .before .before .pre .2 (w .wide .result))
-
-mul-u-2 : tie.Need-mul-u-2 Inv-loop μ-loop
-mul-u-2 c = omega arith
-
-array-write-u : tie.Need-array-write-u Inv-loop μ-loop
-array-write-u c = omega arith
+array-set-from-r : tie.Need-array-set-from-r Inv-loop μ-loop
+array-set-from-r c = omega arith
 
 add-i : tie.Need-add-i Inv-loop μ-loop
 add-i c = omega arith
@@ -59,19 +61,24 @@ loop-less c = omega arith
 
 loop-again : tie.Need-loop-again Inv-loop μ-loop
 loop-again c =
-    let w = c .before .before .before in
-    let l = w .before .before .before in
-    let s = l .before in
-    let a = s .args in
-    let g = c .before .weigh .ensures in (
+    let k = c .before .before .before in
+    let l = k .before .before in
+    let a = l .before .args in
+    let column = toZ-ofZ w32 _ (record { sfits = c .before .column-of .ok }) ∙ c .before .column-of .ensures in
+    let e = toZ-ofZ w32 (c .tight .result) (record { sfits = c .tight .ok }) in
+    let made : c .tight .result ≡ tightOf (a .t .now) (a .tasks .now) (a .columns .now) (l .loop .i) =
+        c .tight .ensures .0 ∙ ap₂ (λ (x : ℕ) (z : ℤ). pos x -ℤ z) (c .before .before .entry .ensures) column
+        ∙ ap (λ (j : ℕ). pos (cell (a .t .now) (l .loop .i) j) -ℤ getD (a .columns .now) j (pos 0)) (k .task-of .ensures .0) in (
       omega arith,
-      tight-more (a .t .now) (a .tasks .now) (a .v .now) (l .loop .i) (l .loop .u) _ (omega arith)
-          (tightly (a .t .now) (a .tasks .now) (a .v .now) (l .loop .i) (w .wide .result) (c .before .before .entry .result) (c .before .weigh .result)
-          (w .wide .ensures .0) (c .before .before .entry .ensures) (g .0) (g .1) (g .2) (s .pre .2)) (l .loop .inv .1),
+      prices-more highest (tightOf (a .t .now) (a .tasks .now) (a .columns .now)) (l .loop .i) (l .loop .r) _ (omega arith) (e ∙ made)
+          (subst (λ (z : ℤ). mag z ≤ highest) (sym e) (c .tight .ensures .1)) (l .loop .inv .1),
     )
 
 returns : tie.Need-returns Inv-loop μ-loop
-returns c = λ i l. c .before .loop .inv .1 .done i (omega arith)
+returns c =
+    let l = c .before .loop in
+    let a = c .before .before .args in
+    prices-all highest (tightOf (a .t .now) (a .tasks .now) (a .columns .now)) (a .m) (l .i) (l .r) (omega arith) (l .inv .1)
 
 pub tight-rows-spec : {M : Type 1} → statement M
 tight-rows-spec =
@@ -80,15 +87,12 @@ tight-rows-spec =
     Inv-loop
     μ-loop
     loop-holds
-    element-copy-out-wide
-    wide-requires
+    task-of-requires
     entry-requires
-    weigh-requires
-    mul-u
-    element-copy-out-u
-    add-u
-    mul-u-2
-    array-write-u
+    column-of-requires
+    tight-requires
+    mul-r
+    array-set-from-r
     add-i
     loop-less
     loop-again
