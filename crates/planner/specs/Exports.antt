@@ -42,6 +42,5 @@ pub record InOrderExport (m : ℕ) (table work lists work′ lists′ numbers : 
 -- the search
 pub record SearchExport (s work out numbers work′ out′ : List ℕ) : Type 0 where
   pub call : SearchCall s work out numbers work′ out′
-  -- demand 3: a plan is one and has least flowtime, without a plan there is none, and no
-  -- plan is below the bound of a spent search
+  -- demand 3: a plan is one and has least flowtime, without a plan there is none, and no plan is below the bound of a spent search
   pub right : RightCall (read s) (searchAnswer s (length work) (length out)) out′
