@@ -1,11 +1,11 @@
-// Places of the padded grid, and the constraints of one carrier in chains by time: for each time the last record, for each record the one before it. So a
-// layer's constraints are found without a look at the others, be there 50 or 4096.
+// Places of the padded grid, and the constraints of one carrier in chains by time: for each time the last record, for each record
+// the one before it. So a layer's constraints are found without a look at the others, be there 50 or 4096.
+use deck::Carrier;
 ghost use mathlib.Core.Path.{_≡_};
 ghost use mathlib.Core.Bool.{cond};
 ghost use Prim.Native.Nat.{ℕ, suc, _+_, _*_, _/_, _<_, _≤_};
 ghost use lib.ListN.{length};
 ghost use lib.Dec.{eqb};
-ghost use Rattle.deck.specs.Sheet.{carrier};
 ghost use Rattle.deck.specs.Calls.{recordWord, constraintAt, constraintsOf};
 ghost use Rattle.kernel.specs.Parts.{freeMove, freePlace, stayAfter, stayFrom};
 ghost use Rattle.bars.specs.Padded.{padOf};
@@ -46,11 +46,11 @@ fn word(records: &[u16], k: usize, n: usize) -> usize
 }
 
 // The head of the chain once the record k is looked at: the record, where it is the carrier's own.
-fn newer(records: &[u16], i: usize, k: usize, h: u16) -> u16
+fn newer(records: &[u16], i: Carrier, k: usize, h: u16) -> u16
     requires { ⌜ (k < 4096) × (k < countIn (now records)) ⌝ }
-    ensures { λ r. ⌜ r ≡ cond (eqb (recordWord (now (records .entry)) k 1) i) (suc k) h ⌝ }
+    ensures { λ r. ⌜ r ≡ cond (eqb (recordWord (now (records .entry)) k 1) (i .0)) (suc k) h ⌝ }
 {
-    if word(records, k, 1) == i {
+    if word(records, k, 1) == i.0 {
         (k + 1) as u16
     } else {
         h
@@ -58,9 +58,9 @@ fn newer(records: &[u16], i: usize, k: usize, h: u16) -> u16
 }
 
 // The chains of the carrier i: the heads by time are returned, the links stand in the lent words.
-pub fn chains(records: &[u16], i: usize, links: &mut [u32]) -> [u16; 256]
+pub fn chains(records: &[u16], i: Carrier, links: &mut [u32]) -> [u16; 256]
     requires { ⌜ Timely (now records) × (countIn (now records) ≤ 4096) × (countIn (now records) ≤ length (now links)) ⌝ }
-    ensures { λ r. ⌜ Chained (now (records .entry)) i r (now (links .exit)) ⌝ }
+    ensures { λ r. ⌜ Chained (now (records .entry)) (i .0) r (now (links .exit)) ⌝ }
 {
     let n = records.len() / 5;
     let mut heads = [0u16; 256];
@@ -135,7 +135,7 @@ fn place_slot(records: &[u16], k: usize, w: usize) -> usize
 // Shuts the ways that the carrier's move constraints bar at t.
 pub fn shut(
     records: &[u16],
-    i: usize,
+    i: Carrier,
     heads: &[u16; 256],
     links: &[u32],
     t: usize,
@@ -143,8 +143,8 @@ pub fn shut(
     back: bool,
     ways: &mut [u8; 6936],
 )
-    requires { ⌜ (1 ≤ w) × (w ≤ 32) × (t < 256) × (countIn (now records) ≤ 4096) × OnLayer w (now records) × Chained (now records) i (now heads) (now links) × (length (now ways) ≡ 6936) ⌝ }
-    ensures { λ _. ⌜ Cleared (now (records .entry)) i t (moveSlot (now (records .entry)) w back) 0 (now (ways .entry)) (now (ways .exit)) ⌝ }
+    requires { ⌜ (1 ≤ w) × (w ≤ 32) × (t < 256) × (countIn (now records) ≤ 4096) × OnLayer w (now records) × Chained (now records) (i .0) (now heads) (now links) × (length (now ways) ≡ 6936) ⌝ }
+    ensures { λ _. ⌜ Cleared (now (records .entry)) (i .0) t (moveSlot (now (records .entry)) w back) 0 (now (ways .entry)) (now (ways .exit)) ⌝ }
 {
     let mut k = wide16(heads[t]);
     while 0 < k {
@@ -158,15 +158,15 @@ pub fn shut(
 // Takes the labels off the places that the carrier's place constraints bar at t.
 pub fn clear(
     records: &[u16],
-    i: usize,
+    i: Carrier,
     heads: &[u16; 256],
     links: &[u32],
     t: usize,
     w: usize,
     layer: &mut [u8; 1156],
 )
-    requires { ⌜ (1 ≤ w) × (w ≤ 32) × (t < 256) × (countIn (now records) ≤ 4096) × OnLayer w (now records) × Chained (now records) i (now heads) (now links) × (length (now layer) ≡ 1156) ⌝ }
-    ensures { λ _. ⌜ Cleared (now (records .entry)) i t (placeSlot (now (records .entry)) w) 0 (now (layer .entry)) (now (layer .exit)) ⌝ }
+    requires { ⌜ (1 ≤ w) × (w ≤ 32) × (t < 256) × (countIn (now records) ≤ 4096) × OnLayer w (now records) × Chained (now records) (i .0) (now heads) (now links) × (length (now layer) ≡ 1156) ⌝ }
+    ensures { λ _. ⌜ Cleared (now (records .entry)) (i .0) t (placeSlot (now (records .entry)) w) 0 (now (layer .entry)) (now (layer .exit)) ⌝ }
 {
     let mut k = wide16(heads[t]);
     while 0 < k {
@@ -194,15 +194,15 @@ fn bars(records: &[u16], k: usize, u: usize, v: usize) -> bool
 // The carrier may go from u to v at t, as far as its move constraints say.
 pub fn move_free(
     records: &[u16],
-    i: usize,
+    i: Carrier,
     heads: &[u16; 256],
     links: &[u32],
     t: usize,
     u: usize,
     v: usize,
 ) -> bool
-    requires { ⌜ (t < 256) × (countIn (now records) ≤ 4096) × Chained (now records) i (now heads) (now links) ⌝ }
-    ensures { λ r. ⌜ r ≡ freeMove (carrier i) (constraintsOf (now (records .entry))) t u v ⌝ }
+    requires { ⌜ (t < 256) × (countIn (now records) ≤ 4096) × Chained (now records) (i .0) (now heads) (now links) ⌝ }
+    ensures { λ r. ⌜ r ≡ freeMove i (constraintsOf (now (records .entry))) t u v ⌝ }
 {
     let mut k = wide16(heads[t]);
     while 0 < k {
@@ -229,14 +229,14 @@ fn bars_place(records: &[u16], k: usize, v: usize) -> bool
 // The carrier may be on v at t, as far as its place constraints say.
 pub fn place_free(
     records: &[u16],
-    i: usize,
+    i: Carrier,
     heads: &[u16; 256],
     links: &[u32],
     t: usize,
     v: usize,
 ) -> bool
-    requires { ⌜ (t < 256) × (countIn (now records) ≤ 4096) × Chained (now records) i (now heads) (now links) ⌝ }
-    ensures { λ r. ⌜ r ≡ freePlace (carrier i) (constraintsOf (now (records .entry))) t v ⌝ }
+    requires { ⌜ (t < 256) × (countIn (now records) ≤ 4096) × Chained (now records) (i .0) (now heads) (now links) ⌝ }
+    ensures { λ r. ⌜ r ≡ freePlace i (constraintsOf (now (records .entry))) t v ⌝ }
 {
     let mut k = wide16(heads[t]);
     while 0 < k {
@@ -257,11 +257,11 @@ pub fn later(a: usize, b: usize) -> usize
 }
 
 // The time after which the record k lets the carrier i stay on g.
-fn stay_after(records: &[u16], i: usize, g: usize, k: usize) -> usize
+fn stay_after(records: &[u16], i: Carrier, g: usize, k: usize) -> usize
     requires { ⌜ (k < 4096) × (k < countIn (now records)) ⌝ }
-    ensures { λ r. ⌜ r ≡ stayAfter (carrier i) g (constraintAt (now (records .entry)) k) ⌝ }
+    ensures { λ r. ⌜ r ≡ stayAfter i g (constraintAt (now (records .entry)) k) ⌝ }
 {
-    if word(records, k, 1) != i {
+    if word(records, k, 1) != i.0 {
         return 0;
     }
     if word(records, k, 2) != g {
@@ -277,9 +277,9 @@ fn stay_after(records: &[u16], i: usize, g: usize, k: usize) -> usize
 }
 
 // The least time from which the carrier i may stay on g.
-pub fn stay_from(records: &[u16], i: usize, g: usize) -> usize
+pub fn stay_from(records: &[u16], i: Carrier, g: usize) -> usize
     requires { ⌜ countIn (now records) ≤ 4096 ⌝ }
-    ensures { λ r. ⌜ r ≡ stayFrom (carrier i) g (constraintsOf (now (records .entry))) ⌝ }
+    ensures { λ r. ⌜ r ≡ stayFrom i g (constraintsOf (now (records .entry))) ⌝ }
 {
     let n = records.len() / 5;
     let mut s = 0;

@@ -85,8 +85,8 @@ pub fn least(
     let goals = passes::goals_of(s, j);
     let n = sheet::goal_count(s, j);
     let turned = passes::reversed(&goals, n);
-    let heads = bars::chains(records, i.0, work);
-    let stay = bars::stay_from(records, i.0, sheet::last_goal(s, j));
+    let heads = bars::chains(records, i, work);
+    let stay = bars::stay_from(records, i, sheet::last_goal(s, j));
     let from = bars::later(bound, stay);
     let end = finish(
         s,

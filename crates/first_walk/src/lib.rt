@@ -110,8 +110,8 @@ fn lets(
     requires { ⌜ (t < 255) × (countIn (now records) ≤ 4096) × Chained (now records) (i .0) (now heads) (now links) ⌝ }
     ensures { λ r. ⌜ r ≡ (freeMove i (constraintsOf (now (records .entry))) t u v && freePlace i (constraintsOf (now (records .entry))) (t + 1) v) ⌝ }
 {
-    if bars::move_free(records, i.0, heads, links, t, u, v) {
-        bars::place_free(records, i.0, heads, links, t + 1, v)
+    if bars::move_free(records, i, heads, links, t, u, v) {
+        bars::place_free(records, i, heads, links, t + 1, v)
     } else {
         false
     }
@@ -322,7 +322,7 @@ pub fn first_walk(
     let n = sheet::goal_count(s, j);
     let last = sheet::last_goal(s, j);
     let u = sheet::start(s, i);
-    if !bars::place_free(records, i.0, heads, links, 0, u) {
+    if !bars::place_free(records, i, heads, links, 0, u) {
         return Tried::NoWalk;
     }
     let p = bars::pad(w, u);

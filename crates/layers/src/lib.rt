@@ -1,9 +1,9 @@
 // Layers of labels on a padded grid: one byte for each padded place, the step from one layer to the next, and the layers that
 // are kept, four bytes to a word.
+use deck::Carrier;
 ghost use mathlib.Core.Path.{_≡_};
 ghost use Prim.Native.Nat.{_+_, _-_, _*_, _/_, _<_, _≤_, max, min};
 ghost use lib.ListN.{length, getD};
-ghost use Rattle.deck.specs.Sheet.{carrier};
 ghost use Rattle.deck.specs.Calls.{constraintsOf};
 ghost use Rattle.bars.specs.Bars.{countIn, OnLayer, Chained};
 ghost use Rattle.layers.specs.Fill.{Filled};
@@ -153,7 +153,7 @@ fn advance(
     w: usize,
     h: usize,
     records: &[u16],
-    i: usize,
+    i: Carrier,
     heads: &[u16; 256],
     links: &[u32],
     t: usize,
@@ -161,8 +161,8 @@ fn advance(
     src: &[u8; 1156],
     dst: &mut [u8; 1156],
 )
-    requires { ⌜ (1 ≤ w) × (w ≤ 32) × (1 ≤ h) × (h ≤ 32) × (t < 256) × (countIn (now records) ≤ 4096) × OnLayer w (now records) × Chained (now records) i (now heads) (now links) × (length (now dst) ≡ 1156) ⌝ }
-    ensures { λ _. ⌜ Advanced w h (now (mask .entry)) (carrier i) (constraintsOf (now (records .entry))) t back (now (src .entry)) (now (dst .entry)) (now (dst .exit)) ⌝ }
+    requires { ⌜ (1 ≤ w) × (w ≤ 32) × (1 ≤ h) × (h ≤ 32) × (t < 256) × (countIn (now records) ≤ 4096) × OnLayer w (now records) × Chained (now records) (i .0) (now heads) (now links) × (length (now dst) ≡ 1156) ⌝ }
+    ensures { λ _. ⌜ Advanced w h (now (mask .entry)) i (constraintsOf (now (records .entry))) t back (now (src .entry)) (now (dst .entry)) (now (dst .exit)) ⌝ }
 {
     let wide = w + 2;
     let end = wide * (h + 1);
@@ -182,7 +182,7 @@ pub fn step(
     w: usize,
     h: usize,
     records: &[u16],
-    i: usize,
+    i: Carrier,
     heads: &[u16; 256],
     links: &[u32],
     t: usize,
@@ -193,8 +193,8 @@ pub fn step(
     src: &[u8; 1156],
     dst: &mut [u8; 1156],
 )
-    requires { ⌜ (1 ≤ w) × (w ≤ 32) × (1 ≤ h) × (h ≤ 32) × (t < 256) × (on < 256) × (countIn (now records) ≤ 4096) × OnLayer w (now records) × Chained (now records) i (now heads) (now links) × (n ≤ 8) × Indexes (now goals) n × (length (now dst) ≡ 1156) ⌝ }
-    ensures { λ _. ⌜ Stepped w h (now (mask .entry)) (carrier i) (constraintsOf (now (records .entry))) t on back (now (goals .entry)) n (now (src .entry)) (now (dst .entry)) (now (dst .exit)) ⌝ }
+    requires { ⌜ (1 ≤ w) × (w ≤ 32) × (1 ≤ h) × (h ≤ 32) × (t < 256) × (on < 256) × (countIn (now records) ≤ 4096) × OnLayer w (now records) × Chained (now records) (i .0) (now heads) (now links) × (n ≤ 8) × Indexes (now goals) n × (length (now dst) ≡ 1156) ⌝ }
+    ensures { λ _. ⌜ Stepped w h (now (mask .entry)) i (constraintsOf (now (records .entry))) t on back (now (goals .entry)) n (now (src .entry)) (now (dst .entry)) (now (dst .exit)) ⌝ }
 {
     advance(mask, w, h, records, i, heads, links, t, back, src, dst);
     bars::clear(records, i, heads, links, on, w, dst);
@@ -204,7 +204,7 @@ pub fn step(
 // The first layer: a walk stands on the padded place p alone, where no constraint bars it at `on`.
 pub fn seed(
     records: &[u16],
-    i: usize,
+    i: Carrier,
     heads: &[u16; 256],
     links: &[u32],
     on: usize,
@@ -213,8 +213,8 @@ pub fn seed(
     n: usize,
     p: usize,
 ) -> [u8; 1156]
-    requires { ⌜ (1 ≤ w) × (w ≤ 32) × (on < 256) × (countIn (now records) ≤ 4096) × OnLayer w (now records) × Chained (now records) i (now heads) (now links) × (n ≤ 8) × Indexes (now goals) n × (p < 1156) ⌝ }
-    ensures { λ r. ⌜ Seeded w (carrier i) (constraintsOf (now (records .entry))) on (now (goals .entry)) n p r ⌝ }
+    requires { ⌜ (1 ≤ w) × (w ≤ 32) × (on < 256) × (countIn (now records) ≤ 4096) × OnLayer w (now records) × Chained (now records) (i .0) (now heads) (now links) × (n ≤ 8) × Indexes (now goals) n × (p < 1156) ⌝ }
+    ensures { λ r. ⌜ Seeded w i (constraintsOf (now (records .entry))) on (now (goals .entry)) n p r ⌝ }
 {
     let mut layer = [0u8; 1156];
     layer[p] = 1;

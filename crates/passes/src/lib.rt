@@ -81,7 +81,7 @@ pub fn forward(
     let n = sheet::goal_count(s, j);
     let goal = bars::pad(w, sheet::last_goal(s, j));
     let start = bars::pad(w, sheet::start(s, i));
-    let mut a = layers::seed(records, i.0, heads, links, 0, w, goals, n, start);
+    let mut a = layers::seed(records, i, heads, links, 0, w, goals, n, start);
     let mut b = [0u8; 1156];
     let mut t = 0;
     loop {
@@ -96,7 +96,7 @@ pub fn forward(
             w,
             h,
             records,
-            i.0,
+            i,
             heads,
             links,
             t,
@@ -118,7 +118,7 @@ pub fn forward(
             w,
             h,
             records,
-            i.0,
+            i,
             heads,
             links,
             t + 1,
@@ -159,7 +159,7 @@ fn back_step(
         w,
         h,
         records,
-        i.0,
+        i,
         heads,
         work,
         t,
@@ -195,7 +195,7 @@ pub fn backward(
     let n = sheet::goal_count(s, j);
     let goal = bars::pad(w, sheet::last_goal(s, j));
     let start = bars::pad(w, sheet::start(s, i));
-    let mut a = layers::seed(records, i.0, heads, work, end, w, goals, n, goal);
+    let mut a = layers::seed(records, i, heads, work, end, w, goals, n, goal);
     let words = ((w + 2) * h + 3) / 4;
     layers::keep(&a, w + 2, words, work, records.len() / 5 + end * words);
     let mut b = [0u8; 1156];

@@ -70,9 +70,9 @@ fn by_walk(
 {
     let horizon = sheet::byte_at(s, 3);
     let goals = passes::goals_of(s, j);
-    let heads = bars::chains(records, i.0, links);
+    let heads = bars::chains(records, i, links);
     let at = 9216 * j.0;
-    let mut from = bars::later(bound, bars::stay_from(records, i.0, sheet::last_goal(s, j)));
+    let mut from = bars::later(bound, bars::stay_from(records, i, sheet::last_goal(s, j)));
     for _ in 0..TRIES {
         if horizon < from {
             return Sought::After(from);

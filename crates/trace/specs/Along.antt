@@ -6,7 +6,6 @@ use mathlib.Core.Bool.{Bool, _&&_}
 use mathlib.Core.List.{List}
 use lib.ListN.{length, getD}
 use lib.Dec.{ltb}
-use Rattle.deck.specs.Sheet.{carrier}
 use Rattle.deck.specs.Calls.{constraintsOf}
 use Rattle.deck.specs.declared.Carrier.{Carrier}
 use Rattle.deck.specs.declared.Task.{Task}
@@ -29,13 +28,13 @@ pub record Visited (goals : List ℕ) (n p k r : ℕ) : Type 0 where
 
 -- by the byte b of the layer, a step from where one is to q keeps the time and is not barred
 abbrev pub wayOn : List ℕ → List ℕ → Look → ℕ → ℕ → Bool
-wayOn rs work l q b = ltb (l .n) (l .k + keptAt work (l .at) b) && freeMove (carrier (l .i)) (constraintsOf rs) (l .t) (l .u) q
+wayOn rs work l q b = ltb (l .n) (l .k + keptAt work (l .at) b) && freeMove (l .i) (constraintsOf rs) (l .t) (l .u) q
 
 -- what a look at one byte asks
 pub record Sees (rs heads work : List ℕ) (l : Look) : Type 0 where
   pub in-time : l .t < 256
   pub few : countIn rs ≤ 4096
-  pub chained : Chained rs (l .i) heads work
+  pub chained : Chained rs (l .i .0) heads work
   pub label : l .k ≤ 8
   pub width : 1 ≤ l .w
   pub narrow : l .w ≤ 32

@@ -19,7 +19,7 @@ ghost use Rattle.trace.specs.Along.{Posed, Visited, wayOn, Sees, Inside}
 // A look around the place u at time t, with the label k of n: the layer of t + 1 is kept from the word `at` on, and b is the byte of u
 // in it.
 pub struct Look {
-    pub i: usize,
+    pub i: Carrier,
     pub t: usize,
     pub u: usize,
     pub w: usize,
@@ -123,7 +123,7 @@ fn next_place(
     let at = records.len() / 5 + (t + 1) * (((w + 2) * h + 3) / 4);
     let b = bars::pad(w, u) - (w + 2);
     let l = Look {
-        i: i.0,
+        i: i,
         t: t,
         u: u,
         w: w,

@@ -10,7 +10,7 @@ use Rattle.bars.proofs.chains.Statement.{statement}
 use Rattle.bars.proofs.chains.Tie as tie
 
 abbrev Inv-loop : tie.InvT-loop
-Inv-loop records i links₀ n heads₀ k₀ links heads k = (k ≤ n) × Linked records i k heads links × (length links ≡ length links₀)
+Inv-loop records i links₀ n heads₀ k₀ links heads k = (k ≤ n) × Linked records (i .0) k heads links × (length links ≡ length links₀)
 
 abbrev μ-loop : tie.MeasureT-loop
 μ-loop records i links₀ n heads₀ k₀ links heads k = n - k

@@ -4,17 +4,19 @@ use native.Mathlib.Omega.{arith}
 use mathlib.Core.Path.{sym, _∙_, subst}
 use Prim.Native.Nat.{ℕ, _-_, _≤_, _<_}
 use lib.Dec.{T}
-use Rattle.bars.specs.Bars.{countIn, ownAt, movesFrom}
+use Rattle.bars.specs.Bars.{countIn, ownAt, Chained, movesFrom}
 use Rattle.bars.proofs.Walks.{Walk, walk-first, none-after, walk-less, walk-turn, walk-own}
 use Rattle.bars.proofs.Records.{move-none, move-some}
 use Rattle.bars.proofs.move_free.Statement.{statement}
 use Rattle.bars.proofs.move_free.Tie as tie
 
 abbrev Inv-loop : tie.InvT-loop
-Inv-loop records i heads links t u v k₀ k = Walk records i t k × ((r : ℕ) → k ≤ r → r < countIn records → T (ownAt records i t r) → ¬ T (movesFrom records u v r))
+Inv-loop records heads links t u v k₀ k =
+    (k ≤ countIn records)
+    × ((i : ℕ) → Chained records i heads links → Walk records i t k × ((r : ℕ) → k ≤ r → r < countIn records → T (ownAt records i t r) → ¬ T (movesFrom records u v r)))
 
 abbrev μ-loop : tie.MeasureT-loop
-μ-loop records i heads links t u v k₀ k = k
+μ-loop records heads links t u v k₀ k = k
 
 mul-wide16 : tie.Need-mul-wide16 Inv-loop μ-loop
 mul-wide16 c = search needs
@@ -26,7 +28,15 @@ wide16-requires : tie.Need-wide16-requires Inv-loop μ-loop
 wide16-requires c κs = search needs
 
 loop-holds : tie.Need-loop-holds Inv-loop μ-loop
-loop-holds c = (walk-first (c .before .before .before .before .args .records .now) (c .before .before .before .before .args .i) (c .before .before .before .before .args .t) (c .before .before .before .before .args .heads .now) (c .before .before .before .before .args .links .now) (omega arith) (c .before .before .before .before .pre .2) (c .wide16 .ensures .0), λ r a b o. absurd (none-after (c .before .before .before .before .args .records .now) (c .before .before .before .before .args .i) (c .before .before .before .before .args .t) (c .before .before .before .before .args .heads .now) (c .before .before .before .before .args .links .now) (omega arith) (c .before .before .before .before .pre .2) (c .wide16 .ensures .0) r a b o))
+loop-holds c =
+    let s = c .before .before .before .before in
+    let a = s .args in (
+      walk-first (a .records .now) (a .i .0) (a .t) (a .heads .now) (a .links .now) (s .pre .0) (s .pre .2) (c .wide16 .ensures .0) .within,
+      λ i C. (
+        walk-first (a .records .now) i (a .t) (a .heads .now) (a .links .now) (s .pre .0) C (c .wide16 .ensures .0),
+        λ r f b o. absurd (none-after (a .records .now) i (a .t) (a .heads .now) (a .links .now) (s .pre .0) C (c .wide16 .ensures .0) r f b o),
+      ),
+    )
 
 sub-r : tie.Need-sub-r Inv-loop μ-loop
 sub-r c = search needs
@@ -35,7 +45,12 @@ bars-requires : tie.Need-bars-requires Inv-loop μ-loop
 bars-requires c κs = search needs
 
 returns : tie.Need-returns Inv-loop μ-loop
-returns c = let o = walk-own (c .before .before .before .before .before .before .before .before .args .records .now) (c .before .before .before .before .before .before .before .before .args .i) (c .before .before .before .before .before .before .before .before .args .t) (c .before .before .loop-test .taken) (c .before .before .before .loop .inv .0) in sym (move-some (c .before .before .before .before .before .before .before .before .args .records .now) (c .before .before .before .before .before .before .before .before .args .i) (c .before .before .before .before .before .before .before .before .args .t) (c .before .before .before .before .before .before .before .before .args .u) (c .before .before .before .before .before .before .before .before .args .v) _ (o .0) (o .1) (subst T (sym (sym (c .before .bars .ensures) ∙ c .if1 .taken)) tt))
+returns c =
+    let l = c .before .before .before in
+    let s = l .before .before .before .before .before in
+    let a = s .args in
+    let o = walk-own (a .records .now) (a .i .0) (a .t) (c .before .before .loop-test .taken) (l .loop .inv .1 (a .i .0) (s .pre .2) .0) in
+    sym (move-some (a .records .now) (a .i .0) (a .t) (a .u) (a .v) _ (o .0) (o .1) (subst T (sym (sym (c .before .bars .ensures) ∙ c .if1 .taken)) tt))
 
 mul-wide32 : tie.Need-mul-wide32 Inv-loop μ-loop
 mul-wide32 c = search needs
@@ -47,13 +62,29 @@ wide32-requires : tie.Need-wide32-requires Inv-loop μ-loop
 wide32-requires c κs = search needs
 
 loop-less : tie.Need-loop-less Inv-loop μ-loop
-loop-less c = walk-less (c .before .before .before .before .before .before .before .before .before .before .args .records .now) (c .before .before .before .before .before .before .before .before .before .before .args .i) (c .before .before .before .before .before .before .before .before .before .before .args .t) (c .before .before .before .before .before .before .before .before .before .before .args .heads .now) (c .before .before .before .before .before .before .before .before .before .before .args .links .now) (omega arith) (c .before .before .before .before .before .before .before .before .before .before .pre .2) (c .before .before .before .before .loop-test .taken) (c .before .before .before .before .before .loop .inv .0) (c .wide32 .ensures)
+loop-less c =
+    let l = c .before .before .before .before .before in
+    let s = l .before .before .before .before .before in
+    let a = s .args in
+    walk-less (a .records .now) (a .i .0) (a .t) (a .heads .now) (a .links .now) (s .pre .0) (s .pre .2) (c .before .before .before .before .loop-test .taken) (l .loop .inv .1 (a .i .0) (s .pre .2) .0) (c .wide32 .ensures)
 
 loop-again : tie.Need-loop-again Inv-loop μ-loop
-loop-again c = walk-turn (c .before .before .before .before .before .before .before .before .before .before .args .records .now) (c .before .before .before .before .before .before .before .before .before .before .args .i) (c .before .before .before .before .before .before .before .before .before .before .args .t) (λ r. ¬ T (movesFrom (c .before .before .before .before .before .before .before .before .before .before .args .records .now) (c .before .before .before .before .before .before .before .before .before .before .args .u) (c .before .before .before .before .before .before .before .before .before .before .args .v) r)) (c .before .before .before .before .before .before .before .before .before .before .args .heads .now) (c .before .before .before .before .before .before .before .before .before .before .args .links .now) (omega arith) (c .before .before .before .before .before .before .before .before .before .before .pre .2) (c .before .before .before .before .loop-test .taken) (c .before .before .before .before .before .loop .inv .0) (c .wide32 .ensures) (λ m. subst T (sym (c .before .before .before .bars .ensures) ∙ c .before .before .if1 .left) m) (c .before .before .before .before .before .loop .inv .1)
+loop-again c =
+    let l = c .before .before .before .before .before in
+    let s = l .before .before .before .before .before in
+    let a = s .args in (
+      omega (arith, l .loop .inv .0, walk-less (a .records .now) (a .i .0) (a .t) (a .heads .now) (a .links .now) (s .pre .0) (s .pre .2) (c .before .before .before .before .loop-test .taken) (l .loop .inv .1 (a .i .0) (s .pre .2) .0) (c .wide32 .ensures)),
+      λ i C. let w = l .loop .inv .1 i C in
+          walk-turn (a .records .now) i (a .t) (λ r. ¬ T (movesFrom (a .records .now) (a .u) (a .v) r)) (a .heads .now) (a .links .now) (s .pre .0) C (c .before .before .before .before .loop-test .taken) (w .0) (c .wide32 .ensures)
+          (λ m. subst T (sym (c .before .before .before .bars .ensures) ∙ c .before .before .if1 .left) m) (w .1),
+    )
 
 returns-2 : tie.Need-returns-2 Inv-loop μ-loop
-returns-2 c = sym (move-none (c .before .before .before .before .before .before .args .records .now) (c .before .before .before .before .before .before .args .i) (c .before .before .before .before .before .before .args .t) (c .before .before .before .before .before .before .args .u) (c .before .before .before .before .before .before .args .v) (λ k b o. c .before .loop .inv .1 k (omega arith) b o))
+returns-2 c =
+    let l = c .before in
+    let s = l .before .before .before .before .before in
+    let a = s .args in
+    sym (move-none (a .records .now) (a .i .0) (a .t) (a .u) (a .v) (λ k b o. l .loop .inv .1 (a .i .0) (s .pre .2) .1 k (omega arith) b o))
 
 pub move-free-spec : {M : Type 1} → statement M
 move-free-spec =

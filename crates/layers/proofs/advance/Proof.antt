@@ -35,10 +35,10 @@ spread-ways-requires : tie.Need-spread-ways-requires
 spread-ways-requires c κs = (omega arith, omega arith, omega (arith, size-of (c .before .before .before .before .before .before .before .before .before .args .w) (c .before .before .before .before .before .before .before .before .before .args .h), size-small (c .before .before .before .before .before .before .before .before .before .args .w) (c .before .before .before .before .before .before .before .before .before .args .h) (omega arith) (omega arith)), omega (arith, size-of (c .before .before .before .before .before .before .before .before .before .args .w) (c .before .before .before .before .before .before .before .before .before .args .h), size-small (c .before .before .before .before .before .before .before .before .before .args .w) (c .before .before .before .before .before .before .before .before .before .args .h) (omega arith) (omega arith)), c .before .before .before .before .before .before .before .before .before .pre .8)
 
 returns : tie.Need-returns
-returns c = plain-advanced (c .before .before .before .before .before .before .args .w) (c .before .before .before .before .before .before .args .h) (c .before .before .before .before .before .before .args .mask .now) (c .before .before .before .before .before .before .args .records .now) (c .before .before .before .before .before .before .args .i) (c .before .before .before .before .before .before .args .heads .now) (c .before .before .before .before .before .before .args .links .now) (c .before .before .before .before .before .before .args .t) (c .before .before .before .before .before .before .args .back) (c .before .before .before .before .before .before .args .src .now) (c .before .before .before .before .before .before .args .dst .now) _ (omega arith) (omega arith) (omega arith) (c .before .before .before .before .before .before .pre .8) (omega arith) (c .before .before .before .before .before .before .pre .7) (c .before .before .if1 .taken) (c .spread .ensures)
+returns c = plain-advanced (c .before .before .before .before .before .before .args .w) (c .before .before .before .before .before .before .args .h) (c .before .before .before .before .before .before .args .mask .now) (c .before .before .before .before .before .before .args .records .now) (c .before .before .before .before .before .before .args .i .0) (c .before .before .before .before .before .before .args .heads .now) (c .before .before .before .before .before .before .args .links .now) (c .before .before .before .before .before .before .args .t) (c .before .before .before .before .before .before .args .back) (c .before .before .before .before .before .before .args .src .now) (c .before .before .before .before .before .before .args .dst .now) _ (omega arith) (omega arith) (omega arith) (c .before .before .before .before .before .before .pre .8) (omega arith) (c .before .before .before .before .before .before .pre .7) (c .before .before .if1 .taken) (c .spread .ensures)
 
 returns-2 : tie.Need-returns-2
-returns-2 c = ways-advanced (c .before .before .before .before .before .before .before .before .before .before .args .w) (c .before .before .before .before .before .before .before .before .before .before .args .h) (c .before .before .before .before .before .before .before .before .before .before .args .mask .now) (c .before .before .before .before .before .before .before .before .before .before .args .records .now) (c .before .before .before .before .before .before .before .before .before .before .args .i) (c .before .before .before .before .before .before .before .before .before .before .args .heads .now) (c .before .before .before .before .before .before .before .before .before .before .args .links .now) (c .before .before .before .before .before .before .before .before .before .before .args .t) (c .before .before .before .before .before .before .before .before .before .before .args .back) (c .before .before .before .before .before .before .before .before .before .before .args .src .now) (c .before .before .before .before .before .before .before .before .before .before .args .dst .now) _ (omega arith) (omega arith) (omega arith) (c .before .before .before .before .before .before .before .before .before .before .pre .8) _ _ (c .before .before .before .before .before .before .before .before .before .before .pre .6) (c .before .before .before .before .before .ways-of .ensures) (c .before .before .before .shut .ensures) (c .spread-ways .ensures)
+returns-2 c = ways-advanced (c .before .before .before .before .before .before .before .before .before .before .args .w) (c .before .before .before .before .before .before .before .before .before .before .args .h) (c .before .before .before .before .before .before .before .before .before .before .args .mask .now) (c .before .before .before .before .before .before .before .before .before .before .args .records .now) (c .before .before .before .before .before .before .before .before .before .before .args .i .0) (c .before .before .before .before .before .before .before .before .before .before .args .heads .now) (c .before .before .before .before .before .before .before .before .before .before .args .links .now) (c .before .before .before .before .before .before .before .before .before .before .args .t) (c .before .before .before .before .before .before .before .before .before .before .args .back) (c .before .before .before .before .before .before .before .before .before .before .args .src .now) (c .before .before .before .before .before .before .before .before .before .before .args .dst .now) _ (omega arith) (omega arith) (omega arith) (c .before .before .before .before .before .before .before .before .before .before .pre .8) _ _ (c .before .before .before .before .before .before .before .before .before .before .pre .6) (c .before .before .before .before .before .ways-of .ensures) (c .before .before .before .shut .ensures) (c .spread-ways .ensures)
 
 pub advance-spec : {M : Type 1} → statement M
 advance-spec =

@@ -18,7 +18,7 @@ raise-requires : tie.Need-raise-requires
 raise-requires c κs = (omega arith, c .before .before .before .before .before .pre .7, c .before .clear .ensures .size ∙ length-set {A = ℕ} (replicate 1156 0) (c .before .before .before .before .before .args .p) 1)
 
 returns : tie.Need-returns
-returns c = all-seeded (c .before .before .before .before .before .before .args .w) (c .before .before .before .before .before .before .args .records .now) (c .before .before .before .before .before .before .args .i) (c .before .before .before .before .before .before .args .on) (c .before .before .before .before .before .before .args .goals .now) (c .before .before .before .before .before .before .args .n) (c .before .before .before .before .before .before .args .p) (omega arith) (omega arith) refl (c .before .before .clear .ensures) (c .raise .ensures)
+returns c = all-seeded (c .before .before .before .before .before .before .args .w) (c .before .before .before .before .before .before .args .records .now) (c .before .before .before .before .before .before .args .i .0) (c .before .before .before .before .before .before .args .on) (c .before .before .before .before .before .before .args .goals .now) (c .before .before .before .before .before .before .args .n) (c .before .before .before .before .before .before .args .p) (omega arith) (omega arith) refl (c .before .before .clear .ensures) (c .raise .ensures)
 
 pub seed-spec : {M : Type 1} → statement M
 seed-spec = tie.close (tie.spec array-write-layer clear-requires raise-requires returns)
