@@ -1,30 +1,17 @@
-// Reads a job sheet from standard input and prints its round: the listing of document 01. An accepted sheet has at most 1304 bytes,
-// so that what lies past the first 4096 does not matter: such a sheet is refused under the same number.
-use deck::SearchAnswer;
+// Reads a job sheet from standard input and prints its round: the listing of document 01.
+// Proved is the text: of the n bytes read, whatever they are, the first r bytes written are the listing of document 01, whole; and
+// where the 4096 bytes do not hold the input whole, its listing is still that of the whole input, as no accepted sheet has more
+// than 1304 bytes (round_text::write). Not proved, but the C library's: that these n bytes are the input's first, and that what is
+// written arrives.
 use libc::STDIN_FILENO;
 use libc::STDOUT_FILENO;
 
 fn main() {
     let mut sheet = io::buffer();
     let n = io::read_full(STDIN_FILENO, &mut sheet);
-    round(&sheet, n);
-}
-
-fn round(sheet: &[u8], n: usize) {
-    if n <= sheet.len() {
-        let mut work = [0u32; 16384];
-        let mut out = [0u16; 3072];
-        let s = &sheet[0..n];
-        let a = search::search(s, &mut work, &mut out);
-        let mut text = [0u8; 16384];
-        print(s, a, &out, &mut text);
-    }
-}
-
-fn print(s: &[u8], a: SearchAnswer, out: &[u16], text: &mut [u8]) {
-    let n = listing::list(s, a, out, text);
-    if n <= text.len() {
-        let part = &text[0..n];
-        io::write_all(STDOUT_FILENO, part);
-    }
+    let mut work = [0u32; 16384];
+    let mut out = [0u16; 3072];
+    let mut text = [0u8; 20480];
+    let r = round_text::write(&sheet[..n], &mut work, &mut out, &mut text);
+    io::write_all(STDOUT_FILENO, &text[..r]);
 }

@@ -1,9 +1,10 @@
 -- The listing of an answer by its kind. Assumes nothing.
-use Prim.Native.Nat.{ℕ, suc}
+use Prim.Native.Nat.{ℕ, suc, _≤_}
 use mathlib.Core.Path.{_≡_, refl, sym, ap, ap₂, subst, _∙_}
 use mathlib.Core.List.{List, _++_}
 use native.Mathlib.Omega.{arith}
 use lib.ListN.{length, take}
+use lib.Seq.{take-all}
 use borrow.Author.Tests.{eq-eqb, ne-eqb}
 use Rattle.deck.specs.Lists.{pieces}
 use Rattle.deck.specs.Sheet.{read, cause, countOf, horizonOf}
@@ -14,6 +15,7 @@ use Rattle.deck.specs.declared.SearchAnswer.{SearchAnswer}
 use Rattle.listing.specs.Wrote.{Wrote}
 use Rattle.listing.specs.Listed.{Listable, listed}
 use Rattle.listing.proofs.Buffers.{wrote-none, wrote-then}
+use Rattle.listing.proofs.Sizes.{Words, Fits, listing-size}
 
 module _ (s : List ℕ) (a : SearchAnswer) (out : List ℕ) where
   -- of an accepted sheet, and of any sheet unless the answer says plan
@@ -39,9 +41,10 @@ module _ (s : List ℕ) (a : SearchAnswer) (out : List ℕ) where
       subst (λ (l : List (List ℕ)). Wrote c r (carrierLines (read s) (a .tasks) l) e o) (ap₂ (λ x y. pieces x (suc y) out) p q) w in
       rw (listed-is Plan ok) (wrote-then (omega arith) v u)
 
-  -- what the call promises, by the kind that the match found
-  pub answered : {b c : List ℕ} {r : ℕ} (k found : SearchKind) → k ≡ found → Wrote b 0 (listed s found a out) c r
-      → Wrote b 0 (listed s k a out) c r × (Listable s k → take r c ≡ take (length b) (listingFor (read s) k a out))
-  answered {b} {c} {r} k found q w =
+  -- what the call promises, by the kind that the match found: a text of 20480 bytes is not cut off
+  pub answered : {b c : List ℕ} {r : ℕ} (k found : SearchKind) → k ≡ found → Fits found a → Words out → Wrote b 0 (listed s found a out) c r
+      → Wrote b 0 (listed s k a out) c r × (Listable s k → 20480 ≤ length b → take r c ≡ listingFor (read s) k a out)
+  answered {b} {c} {r} k found q f p w =
       let v : Wrote b 0 (listed s k a out) c r = subst (λ (x : SearchKind). Wrote b 0 (listed s x a out) c r) (sym q) w in
-      (v, λ ok. v .held ∙ ap (take (length b)) (listed-is k ok))
+      let g : Fits k a = subst (λ (x : SearchKind). Fits x a) (sym q) f in
+      (v, λ ok room. v .held ∙ ap (take (length b)) (listed-is k ok) ∙ take-all (length b) (listingFor (read s) k a out) (omega (arith, listing-size s a out p k ok g)))

@@ -1,4 +1,4 @@
--- A buffer of 16384 bytes holds the listing of every answer to an accepted sheet whole. Assumes nothing.
+-- A buffer of 20480 bytes holds the listing of every answer whole, whatever the words of its output are. Assumes nothing.
 use Prim.Native.Nat.{ℕ, zero, suc, _+_, _*_, _/_, _%_, _^_, _≤_, _<_}
 use mathlib.Core.Path.{_≡_, refl}
 use mathlib.Core.Bool.{Bool, true, false, cond}
@@ -7,10 +7,10 @@ use native.Mathlib.Nat.{pow-suc, suc-mul}
 use native.Mathlib.Omega.{arith}
 use lib.Dec.{ltb, eqb}
 use lib.ListN.{length, getD, take, drop, length-append, length-take}
-use lib.Seq.{take-all, getD-drop}
+use lib.Seq.{getD-drop}
 use borrow.Author.Tests.{ltb-true, ltb-false}
 use Rattle.deck.specs.Lists.{countFrom, below, each, all, pieces}
-use Rattle.deck.specs.Sheet.{Sheet, read, cause, task, lastGoal}
+use Rattle.deck.specs.Sheet.{Sheet, read, cause, countOf, horizonOf, task, lastGoal}
 use Rattle.deck.specs.Paths.{finish, finishOf}
 use Rattle.deck.specs.Listing.{decimal, text, textFrom, spaced, carrierLine, carrierLines, listingFor}
 use Rattle.deck.specs.declared.SearchKind.{SearchKind}
@@ -19,6 +19,7 @@ use Rattle.deck.specs.declared.SearchAnswer.{SearchAnswer}
 use Rattle.meaning.proofs.Accepted.{accepted-horizon}
 use Rattle.sheet.proofs.Accepted.{count-range}
 use Rattle.collision_scan.proofs.Words.{piece-at}
+use Rattle.listing.specs.Listed.{Listable}
 use Rattle.listing.proofs.Decimals.{one-digit, more-digits}
 
 -- a number below 10 ^ (k + 1) has at most k + 1 digits
@@ -30,18 +31,18 @@ decimal-size (suc k) n h = go (ltb n 10) refl (decimal-size k (n / 10) (omega (a
     go true e r = rw (one-digit n (ltb-true n 10 e)) (omega arith)
     go false e r = rw (more-digits n (ltb-false n 10 e), length-append (decimal (n / 10)) ((48 + n % 10) ∷ [])) (omega arith)
 
--- every place has at most four digits, and what is read past the end is 0
-abbrev Small : List ℕ → Type 0
-Small l = (k : ℕ) → getD l k 0 < 10000
+-- every word has at most five digits, and what is read past the end is 0
+abbrev pub Words : List ℕ → Type 0
+Words l = (k : ℕ) → getD l k 0 < 65536
 
--- a place of four digits and a space
-spaced-size : (l : List ℕ) → Small l → length (spaced l) ≤ 5 * length l
+-- a word of five digits and a space
+spaced-size : (l : List ℕ) → Words l → length (spaced l) ≤ 6 * length l
 unfolding spaced text textFrom
 spaced-size [] h = omega arith
-spaced-size (x ∷ []) h = omega (arith, decimal-size 3 x (h 0))
+spaced-size (x ∷ []) h = omega (arith, decimal-size 4 x (omega (arith, h 0)))
 spaced-size (x ∷ y ∷ l) h =
     let r = spaced-size (y ∷ l) (λ k. h (suc k)) in
-    simp length-append (omega (arith, decimal-size 3 x (h 0)))
+    simp length-append (omega (arith, decimal-size 4 x (omega (arith, h 0))))
 
 finish-size : (g : ℕ) (p : List ℕ) → finish g p ≤ length p
 unfolding finish
@@ -52,16 +53,16 @@ finish-size g (x ∷ p) = go (all (eqb g) (x ∷ p)) (finish-size g p)
     go true r = omega arith
     go false r = omega arith
 
-take-small : (n : ℕ) (l : List ℕ) → Small l → Small (take n l)
-take-small zero l h k = omega arith
-take-small (suc n) [] h k = omega arith
-take-small (suc n) (x ∷ l) h zero = h 0
-take-small (suc n) (x ∷ l) h (suc k) = take-small n l (λ i. h (suc i)) k
+take-words : (n : ℕ) (l : List ℕ) → Words l → Words (take n l)
+take-words zero l h k = omega arith
+take-words (suc n) [] h k = omega arith
+take-words (suc n) (x ∷ l) h zero = h 0
+take-words (suc n) (x ∷ l) h (suc k) = take-words n l (λ i. h (suc i)) k
 
-drop-small : (n : ℕ) (l : List ℕ) → Small l → Small (drop n l)
-drop-small n l h k = rw (getD-drop n l k 0) (h (n + k))
+drop-words : (n : ℕ) (l : List ℕ) → Words l → Words (drop n l)
+drop-words n l h k = rw (getD-drop n l k 0) (h (n + k))
 
-line-size : (d : Sheet) (i j : ℕ) (p : List ℕ) → i < 12 → j < 256 → length p ≤ 256 → Small p → length (carrierLine d i j p) ≤ 1313
+line-size : (d : Sheet) (i j : ℕ) (p : List ℕ) → i < 12 → j < 256 → length p ≤ 256 → Words p → length (carrierLine d i j p) ≤ 1569
 unfolding carrierLine text textFrom
 line-size d i j p hi hj hp h =
     let f : finishOf d (task j) p ≤ length p = finish-size (lastGoal d (task j)) p in
@@ -73,41 +74,44 @@ each-size f size k (suc n) h =
     let r = each-size f size (suc k) n (λ i l. h i (omega arith)) in
     simp length-append (omega (arith, h k (omega arith), suc-mul n size))
 
+-- a byte that is there, or the 255 that stands for a missing one
+pub byte-or : (l : List ℕ) → ((i : ℕ) → getD l i 0 < 256) → (i : ℕ) → getD l i 255 < 256
+byte-or [] h i = omega arith
+byte-or (x ∷ l) h zero = h 0
+byte-or (x ∷ l) h (suc i) = byte-or l (λ k. h (suc k)) i
+
+abbrev pub SmallCause : SearchKind → Type 0
+SmallCause Plan = Unit {0}
+SmallCause NoPlan = Unit {0}
+SmallCause Spent = Unit {0}
+SmallCause (Refused c) = c < 256
+
 -- the numbers of an answer as its types hold them: words of 64 bits, and bytes
 pub record Fits (k : SearchKind) (a : SearchAnswer) : Type 0 where
   pub flowtime : a .flowtime < 2 ^ 64
   pub nodes : a .nodes < 2 ^ 64
   pub bound : a .bound < 2 ^ 64
   pub tasks : (i : ℕ) → getD (a .tasks) i 255 < 256
-  pub cause : (c : ℕ) → k ≡ Refused c → c < 256
+  pub cause : SmallCause k
 
-module _ (d : Sheet) (a : SearchAnswer) (out : List ℕ) (m : d .count ≤ 12) (h : d .horizon ≤ 255) (p : (i : ℕ) → getD out i 0 < 1024) where
-  lines-size : ((i : ℕ) → getD (a .tasks) i 255 < 256) → length (carrierLines d (a .tasks) (pieces (d .count) (suc (d .horizon)) out)) ≤ 12 * 1313
+module _ (s : List ℕ) (a : SearchAnswer) (out : List ℕ) (p : Words out) where
+  lines-size : cause s ≡ 0 → ((i : ℕ) → getD (a .tasks) i 255 < 256) → length (carrierLines (read s) (a .tasks) (pieces (countOf s) (suc (horizonOf s)) out)) ≤ 12 * 1569
   unfolding carrierLines
-  lines-size t =
-      let r : length (carrierLines d (a .tasks) (pieces (d .count) (suc (d .horizon)) out)) ≤ d .count * 1313 = each-size (λ i. carrierLine d i (getD (a .tasks) i 255) (getD (pieces (d .count) (suc (d .horizon)) out) i [])) 1313 0 (d .count) line in
-      omega arith
+  lines-size ok t =
+      let r : length (carrierLines (read s) (a .tasks) (pieces (countOf s) (suc (horizonOf s)) out)) ≤ countOf s * 1569 = each-size (λ i. carrierLine (read s) i (getD (a .tasks) i 255) (getD (pieces (countOf s) (suc (horizonOf s)) out) i [])) 1569 0 (countOf s) line in
+      omega (arith, count-range s ok)
     where
-      small : Small out
-      small k = omega (arith, p k)
-
-      line : (i : ℕ) → i < 0 + d .count → length (carrierLine d i (getD (a .tasks) i 255) (getD (pieces (d .count) (suc (d .horizon)) out) i [])) ≤ 1313
+      line : (i : ℕ) → i < 0 + countOf s → length (carrierLine (read s) i (getD (a .tasks) i 255) (getD (pieces (countOf s) (suc (horizonOf s)) out) i [])) ≤ 1569
       line i l =
-          rw (piece-at (d .count) (suc (d .horizon)) out i (omega arith))
-          (line-size d i (getD (a .tasks) i 255) (take (suc (d .horizon)) (drop (i * suc (d .horizon)) out)) (omega arith) (t i) (simp length-take (omega arith)) (take-small (suc (d .horizon)) (drop (i * suc (d .horizon)) out) (drop-small (i * suc (d .horizon)) out small)))
+          rw (piece-at (countOf s) (suc (horizonOf s)) out i (omega arith))
+          (line-size (read s) i (getD (a .tasks) i 255) (take (suc (horizonOf s)) (drop (i * suc (horizonOf s)) out)) (omega (arith, count-range s ok)) (t i) (simp length-take (omega (arith, accepted-horizon s ok))) (take-words (suc (horizonOf s)) (drop (i * suc (horizonOf s)) out) (drop-words (i * suc (horizonOf s)) out p)))
 
   -- THE SIZE
-  pub listing-size : (k : SearchKind) → Fits k a → length (listingFor d k a out) ≤ 16384
+  pub listing-size : (k : SearchKind) → Listable s k → Fits k a → length (listingFor (read s) k a out) ≤ 20480
   unfolding listingFor text textFrom
-  listing-size Plan f =
-      simp length-append (omega (arith, decimal-size 19 (a .flowtime) (omega (arith, f .flowtime)), decimal-size 19 (a .nodes) (omega (arith, f .nodes)), lines-size (f .tasks)))
-  listing-size NoPlan f = simp length-append (omega (arith, decimal-size 19 (a .nodes) (omega (arith, f .nodes))))
-  listing-size Spent f =
+  listing-size Plan ok f =
+      simp length-append (omega (arith, decimal-size 19 (a .flowtime) (omega (arith, f .flowtime)), decimal-size 19 (a .nodes) (omega (arith, f .nodes)), lines-size ok (f .tasks)))
+  listing-size NoPlan ok f = simp length-append (omega (arith, decimal-size 19 (a .nodes) (omega (arith, f .nodes))))
+  listing-size Spent ok f =
       simp length-append (omega (arith, decimal-size 19 (a .bound) (omega (arith, f .bound)), decimal-size 19 (a .nodes) (omega (arith, f .nodes))))
-  listing-size (Refused c) f = simp length-append (omega (arith, decimal-size 2 c (omega (arith, f .cause c refl))))
-
--- of an accepted sheet nothing is cut off
-pub listing-whole : (s : List ℕ) (a : SearchAnswer) (out : List ℕ) (k : SearchKind) → cause s ≡ 0 → Fits k a → ((i : ℕ) → getD out i 0 < 1024)
-    → take 16384 (listingFor (read s) k a out) ≡ listingFor (read s) k a out
-listing-whole s a out k ok f p =
-    take-all 16384 (listingFor (read s) k a out) (listing-size (read s) a out (count-range s ok .1) (accepted-horizon s ok) p k f)
+  listing-size (Refused c) ok f = simp length-append (omega (arith, decimal-size 2 c (omega (arith, f .cause))))

@@ -175,9 +175,10 @@ fn put_plan(s: &[u8], a: SearchAnswer, paths: &[u16], text: &mut [u8]) -> usize
 }
 
 // The listing of the answer a to the sheet s, `paths` being the words of its output. The result is how many bytes were written.
+// A text of 20480 bytes is not cut off, whatever the answer and the words are.
 pub fn list(s: &[u8], a: SearchAnswer, paths: &[u16], text: &mut [u8]) -> usize
     ensures { λ r. ⌜ Wrote (now (text .entry)) 0 (listed (now (s .entry)) (a .kind) a (now (paths .entry))) (now (text .exit)) r ⌝ }
-    ensures { λ r. ⌜ (Listable (now (s .entry)) (a .kind) → take r (now (text .exit)) ≡ take (length (now (text .entry))) (listingFor (read (now (s .entry))) (a .kind) a (now (paths .entry)))) ⌝ }
+    ensures whole { λ r. ⌜ (Listable (now (s .entry)) (a .kind) → 20480 ≤ length (now (text .entry)) → take r (now (text .exit)) ≡ listingFor (read (now (s .entry))) (a .kind) a (now (paths .entry))) ⌝ }
 {
     let kind = a.kind;
     match kind {

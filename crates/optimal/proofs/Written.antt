@@ -23,7 +23,7 @@ pieces-flat k (p ∷ ps) rest h =
     rw (append-assoc p (flat ps) rest, take-at p (flat ps ++ rest) k e, drop-at p (flat ps ++ rest) k e)
     (ap (λ l. p ∷ l) (pieces-flat k ps rest (λ i l. h (suc i) (omega arith))))
 
-plan-pieces : (d : Sheet) (a : List ℕ) (ps : List (List ℕ)) (fs rest : List ℕ) → Plan d a ps fs
+pub plan-pieces : (d : Sheet) (a : List ℕ) (ps : List (List ℕ)) (fs rest : List ℕ) → Plan d a ps fs
     → pieces (d .count) (suc (d .horizon)) (flat ps ++ rest) ≡ ps
 plan-pieces d a ps fs rest p =
     subst (λ m. pieces m (suc (d .horizon)) (flat ps ++ rest) ≡ ps) (p .a-path-each)
