@@ -8,6 +8,8 @@ use Rattle.deck.specs.Sheet.{Sheet, read, cause}
 use Rattle.deck.specs.Search.{Answer, plan, noPlan, spent}
 use Rattle.deck.specs.Planner.{planFor}
 use Rattle.deck.specs.Calls.{searchCause, searchFound, searchWritten, searchAnswerFor, searchOutputFor, searchAnswer, searchOutput, SearchCall}
+use Rattle.deck.specs.Numbers.{searchNumbers}
+use Rattle.deck.proofs.Told.{search-answered}
 use Rattle.deck.specs.Listing.{listingFor, listing}
 use Rattle.deck.specs.declared.SearchKind.{SearchKind}
 use Rattle.deck.specs.declared.SearchKind.the-variants.{Plan, NoPlan, Spent, Refused}
@@ -52,9 +54,9 @@ module _ (s out : List ℕ) (words : length out ≡ 3072) where
 
 -- THE TEXT of a call that was lent so many words: what is listed of its answer and output is listed of the sheet
 pub call-listed : (s work out : List ℕ) (answer : SearchAnswer) (work′ out′ t : List ℕ) → length work ≡ 16384 → length out ≡ 3072
-    → SearchCall s work out answer work′ out′ → (Listable s (answer .kind) → t ≡ listingFor (read s) (answer .kind) answer out′) → t ≡ listing s
+    → SearchCall s work out (searchNumbers answer) work′ out′ → (Listable s (answer .kind) → t ≡ listingFor (read s) (answer .kind) answer out′) → t ≡ listing s
 call-listed s work out answer work′ out′ t w o call listed =
-    let answered : answer ≡ searchAnswer s (length work) (length out) = call .answered in
+    let answered : answer ≡ searchAnswer s (length work) (length out) = search-answered answer call in
     let same : Listable s (answer .kind) × (listingFor (read s) (answer .kind) answer out′ ≡ listing s) =
     rw (answered ∙ ap₂ (searchAnswer s) w o, call .written ∙ ap (λ n. searchOutput s n out) w) (answer-same s out o) in
     listed (same .0) ∙ same .1

@@ -6,13 +6,14 @@ ghost use mathlib.Core.List.{List, _++_};
 ghost use Prim.Native.Nat.{ℕ, _≤_, _<_};
 ghost use lib.ListN.{length, take, drop};
 ghost use Rattle.deck.specs.Calls.{SearchCall};
+ghost use Rattle.deck.specs.Numbers.{searchNumbers};
 ghost use Rattle.deck.specs.Listing.{listing};
 ghost use Rattle.round_text.specs.Longest.{longest};
 
 // "It lends 16384 words of workspace and 3072 of output".
 fn answer(s: &[u8], work: &mut [u32], out: &mut [u16]) -> SearchAnswer
     requires { ⌜ (length (now work) ≡ 16384) × (length (now out) ≡ 3072) ⌝ }
-    ensures { λ r. ⌜ SearchCall (now (s .entry)) (now (work .entry)) (now (out .entry)) r (now (work .exit)) (now (out .exit)) ⌝ }
+    ensures { λ r. ⌜ SearchCall (now (s .entry)) (now (work .entry)) (now (out .entry)) (searchNumbers r) (now (work .exit)) (now (out .exit)) ⌝ }
 {
     search::search(s, work, out)
 }
