@@ -7,7 +7,7 @@ ghost use mathlib.Core.Path.{_≡_};
 ghost use mathlib.Core.Logic.{_≢_};
 ghost use mathlib.Core.Bool.{true, false};
 ghost use Prim.Native.Nat.{ℕ, suc, _+_, _*_, _%_, _<_, _≤_};
-ghost use lib.ListN.{length, getD};
+ghost use lib.ListN.{length, getD, set};
 ghost use Rattle.deck.specs.Sheet.{read, countOf, cause, task};
 ghost use Rattle.deck.specs.Assignments.{barred, tableOf};
 ghost use Rattle.bars.specs.Padded.{Holds, MaskOf};
@@ -59,6 +59,32 @@ fn marked(e: u16, label: u8, n: usize, k: usize) -> u16
     e
 }
 
+// A carrier's start.
+fn start_of(starts: &[usize; 12], carrier: Carrier) -> usize
+    requires { ⌜ carrier .0 < 12 ⌝ }
+    ensures { λ r. ⌜ r ≡ getD (now (starts .entry)) (carrier .0) 0 ⌝ }
+{
+    let i = carrier.0;
+    starts[i]
+}
+
+// A carrier's entry in a task's column.
+fn entry_of(column: &[u16; 12], carrier: Carrier) -> u16
+    requires { ⌜ carrier .0 < 12 ⌝ }
+    ensures { λ r. ⌜ r ≡ getD (now (column .entry)) (carrier .0) 0 ⌝ }
+{
+    let i = carrier.0;
+    column[i]
+}
+
+fn set_entry(column: &mut [u16; 12], carrier: Carrier, e: u16)
+    requires { ⌜ carrier .0 < 12 ⌝ }
+    ensures { λ _. ⌜ now (column .exit) ≡ set (now (column .entry)) (carrier .0) e ⌝ }
+{
+    let i = carrier.0;
+    column[i] = e;
+}
+
 fn also(all: bool, e: u16) -> bool
     ensures { λ r. ⌜ (r ≡ true → (all ≡ true) × (e ≢ barred)) ⌝ }
 {
@@ -79,9 +105,9 @@ fn mark(
 {
     let mut all = true;
     for i in 0..m {
-        let p = starts[i];
-        let e = marked(column[i], layer[p], n, k);
-        column[i] = e;
+        let p = start_of(starts, Carrier(i));
+        let e = marked(entry_of(column, Carrier(i)), layer[p], n, k);
+        set_entry(column, Carrier(i), e);
         all = also(all, e);
     }
     all
@@ -99,7 +125,7 @@ fn first_layer(s: &[u8], j: Task, goals: &[usize; 8]) -> [u8; 1156]
     let links = [0u32; 1];
     layers::seed(
         &none[..0],
-        0,
+        Carrier(0),
         &heads,
         &links,
         0,
@@ -133,7 +159,7 @@ fn next_layer(
         w,
         h,
         &none[..0],
-        0,
+        Carrier(0),
         &heads,
         &links,
         0,
@@ -200,9 +226,9 @@ fn put_column(t: &mut [u16; 144], j: Task, m: usize, column: &[u16; 12])
     requires { ⌜ (j .0 < 12) × (m ≤ 12) × (length (now t) ≡ 144) ⌝ }
     ensures { λ _. ⌜ ((i : ℕ) → i < m → cell (now (t .exit)) i (j .0) ≡ getD (now (column .entry)) i 0) × ((x : ℕ) → x % 12 ≢ j .0 → getD (now (t .exit)) x 0 ≡ getD (now (t .entry)) x 0) × (length (now (t .exit)) ≡ 144) ⌝ }
 {
-    let to = j.0;
     for i in 0..m {
-        t[i * 12 + to] = column[i];
+        let e = entry_of(column, Carrier(i));
+        tables::put(t, Carrier(i), j, e);
     }
 }
 

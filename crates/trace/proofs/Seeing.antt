@@ -44,7 +44,7 @@ module _ (s : List ℕ) (i : Carrier) (j : Task) (mask rs : List ℕ) (r : Ready
   many = length (goalsOf (read s) j)
 
   abbrev look : ℕ → ℕ → ℕ → ℕ → Look
-  look w at b n = record { i = i .0; t = t; u = u; w = w; at = at; b = b; n = n; k = k }
+  look w at b n = record { i = i; t = t; u = u; w = w; at = at; b = b; n = n; k = k }
 
   -- the next step leads to q
   abbrev goes : ℕ → Bool

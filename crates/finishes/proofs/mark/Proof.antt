@@ -1,9 +1,10 @@
--- `finishes::mark` meets its contract: the carriers passed are marked. Assumes nothing.
-use native.Mathlib.Omega.{arith}
-use Prim.Native.Nat.{ℕ, _-_, _≤_, _<_}
-use mathlib.Core.Path.{_≡_, refl}
+-- `finishes::mark` meets its contract. Assumes nothing.
+use Prim.Native.Nat.{ℕ, _+_, _-_, _≤_, _<_}
+use mathlib.Core.Path.{_≡_, refl, sym, ap₂, subst, _∙_}
 use mathlib.Core.Logic.{_≢_}
 use mathlib.Core.Bool.{true}
+use mathlib.Core.List.{List}
+use native.Mathlib.Omega.{arith}
 use lib.ListN.{getD}
 use Rattle.deck.specs.Assignments.{barred}
 use Rattle.layers.specs.Fill.{Filled}
@@ -14,7 +15,9 @@ use Rattle.finishes.proofs.mark.Statement.{statement}
 use Rattle.finishes.proofs.mark.Tie as tie
 
 abbrev Inv-loop : tie.InvT-loop
-Inv-loop layer starts m n k column₀ all₀ i₀ column all i = (i ≤ m) × Filled 0 i (λ x. marked n (getD layer (getD starts x 0) 0) k (getD column₀ x 0)) column₀ column × (all ≡ true → (x : ℕ) → x < i → getD column x 0 ≢ barred)
+Inv-loop layer starts m n k column₀ all₀ i₀ column all i =
+    (i ≤ m) × Filled 0 i (λ x. marked n (getD layer (getD starts x 0) 0) k (getD column₀ x 0)) column₀ column
+    × (all ≡ true → (x : ℕ) → x < i → getD column x 0 ≢ barred)
 
 abbrev μ-loop : tie.MeasureT-loop
 μ-loop layer starts m n k column₀ all₀ i₀ column all i = m - i
@@ -22,29 +25,22 @@ abbrev μ-loop : tie.MeasureT-loop
 loop-holds : tie.Need-loop-holds Inv-loop μ-loop
 loop-holds c = (omega arith, filled-none _ _ _, λ e x h. absurd (omega arith))
 
-mul-p : tie.Need-mul-p Inv-loop μ-loop
-mul-p c = omega arith
+start-of-requires : tie.Need-start-of-requires Inv-loop μ-loop
+start-of-requires c κs = omega arith
 
-element-copy-out-p : tie.Need-element-copy-out-p Inv-loop μ-loop
-element-copy-out-p c = omega arith
-
-mul-marked : tie.Need-mul-marked Inv-loop μ-loop
-mul-marked c = omega arith
+entry-of-requires : tie.Need-entry-of-requires Inv-loop μ-loop
+entry-of-requires c κs = omega arith
 
 element-copy-out-marked : tie.Need-element-copy-out-marked Inv-loop μ-loop
-element-copy-out-marked c = omega arith
-
-element-copy-out-marked-2 : tie.Need-element-copy-out-marked-2 Inv-loop μ-loop
-element-copy-out-marked-2 c = c .before .before .before .before .pre .2 (c .before .before .before .loop .i) (c .before .before .loop-test .taken)
+element-copy-out-marked c =
+    let l = c .before .before .before .before in
+    rw (c .before .before .start-of .ensures) (l .before .pre .2 (l .loop .i) (c .before .before .before .loop-test .taken))
 
 marked-requires : tie.Need-marked-requires Inv-loop μ-loop
-marked-requires c κs = c .before .before .before .before .before .pre .1
+marked-requires c κs = c .before .before .before .before .before .before .pre .1
 
-mul-column : tie.Need-mul-column Inv-loop μ-loop
-mul-column c = omega arith
-
-element-write-column : tie.Need-element-write-column Inv-loop μ-loop
-element-write-column c = omega arith
+set-entry-requires : tie.Need-set-entry-requires Inv-loop μ-loop
+set-entry-requires c κs = omega arith
 
 also-requires : tie.Need-also-requires Inv-loop μ-loop
 also-requires c κs = tt
@@ -56,10 +52,30 @@ loop-less : tie.Need-loop-less Inv-loop μ-loop
 loop-less c = omega arith
 
 loop-again : tie.Need-loop-again Inv-loop μ-loop
-loop-again c = (omega arith, marks-more (λ x. marked (c .before .before .before .before .before .before .before .args .n) (getD (c .before .before .before .before .before .before .before .args .layer .now) (getD (c .before .before .before .before .before .before .before .args .starts .now) x 0) 0) (c .before .before .before .before .before .before .before .args .k) (getD (c .before .before .before .before .before .before .before .args .column .now) x 0)) (c .before .before .before .before .before .before .before .args .n) (getD (c .before .before .before .before .before .before .before .args .layer .now) (getD (c .before .before .before .before .before .before .before .args .starts .now) (c .before .before .before .before .before .before .loop .i) 0) 0) (c .before .before .before .before .before .before .before .args .k) (c .before .before .before .before .before .before .loop .i) (c .before .before .before .before .before .before .before .args .column .now) (c .before .before .before .before .before .before .loop .column) (c .before .marked .result) (omega (arith, c .before .before .before .before .before .before .before .pre .3)) (c .before .marked .ensures) refl (c .before .before .before .before .before .before .loop .inv .1), full-more (c .before .before .before .before .before .before .loop .i) (c .before .marked .result) (c .before .before .before .before .before .before .loop .column) (omega (arith, c .before .before .before .before .before .before .before .pre .3, c .before .before .before .before .before .before .loop .inv .1 .size)) (c .also .ensures) (c .before .before .before .before .before .before .loop .inv .2))
+loop-again c =
+    let r = c .before .before .before in
+    let q = r .before .before .before .before in
+    let l = q .before .before in
+    let s = l .before in
+    let a = s .args in
+    let i = l .loop .i in
+    let f : ℕ → ℕ = λ x. marked (a .n) (getD (a .layer .now) (getD (a .starts .now) x 0) 0) (a .k) (getD (a .column .now) x 0) in
+    let made : r .marked .result ≡ marked (a .n) (getD (a .layer .now) (getD (a .starts .now) i 0) 0) (a .k) (getD (l .loop .column) i 0) =
+        r .marked .ensures ∙ ap₂ (λ (p e : ℕ). marked (a .n) (getD (a .layer .now) p 0) (a .k) e) (q .start-of .ensures) (r .before .before .entry-of .ensures) in
+    let set-is = sym (c .before .set-entry .ensures) in (
+      omega arith,
+      subst (Filled 0 (i + 1) f (a .column .now)) set-is
+          (marks-more f (a .n) (getD (a .layer .now) (getD (a .starts .now) i 0) 0) (a .k) i (a .column .now) (l .loop .column) _ (omega (arith, s .pre .3)) made refl (l .loop .inv .1)),
+      λ t x h. subst (λ (z : List ℕ). getD z x 0 ≢ barred) set-is
+          (full-more i (r .marked .result) (l .loop .column) (omega (arith, s .pre .3, l .loop .inv .1 .size)) (c .also .ensures) (l .loop .inv .2) t x h),
+    )
 
 returns : tie.Need-returns Inv-loop μ-loop
-returns c = (let e : c .before .loop .i ≡ c .before .before .args .m = omega arith in filled-all 0 (λ x. marked (c .before .before .args .n) (getD (c .before .before .args .layer .now) (getD (c .before .before .args .starts .now) x 0) 0) (c .before .before .args .k) (getD (c .before .before .args .column .now) x 0)) (c .before .before .args .column .now) e (c .before .loop .inv .1), λ t x l. c .before .loop .inv .2 t x (omega arith))
+returns c =
+    let l = c .before in
+    let a = l .before .args in
+    let e : l .loop .i ≡ a .m = omega arith in
+    (filled-all 0 (λ x. marked (a .n) (getD (a .layer .now) (getD (a .starts .now) x 0) 0) (a .k) (getD (a .column .now) x 0)) (a .column .now) e (l .loop .inv .1), λ t x h. l .loop .inv .2 t x (omega arith))
 
 pub mark-spec : {M : Type 1} → statement M
 mark-spec =
@@ -68,14 +84,11 @@ mark-spec =
     Inv-loop
     μ-loop
     loop-holds
-    mul-p
-    element-copy-out-p
-    mul-marked
+    start-of-requires
+    entry-of-requires
     element-copy-out-marked
-    element-copy-out-marked-2
     marked-requires
-    mul-column
-    element-write-column
+    set-entry-requires
     also-requires
     add-i
     loop-less
