@@ -17,8 +17,8 @@ refusal-requires c κs = search needs
 
 returns : tie.Need-returns
 returns c =
-    let a = c .before .before .before .before .before .before .args in
-    call-refused (a .s .now) (a .i) (a .j) (a .work .now) (a .out .now) (a .records .now) _ (c .before .refusal .ensures) (c .if1 .taken)
+    let args = c .before .before .before .before .before .before .args in
+    call-refused (args .s .now) (args .i) (args .j) (args .work .now) (args .out .now) (args .records .now) _ (c .before .refusal .ensures) (c .if1 .taken)
 
 mask-of-requires : tie.Need-mask-of-requires
 mask-of-requires c κs =
