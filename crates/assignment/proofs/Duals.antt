@@ -11,7 +11,7 @@ use lib.ListN.{getD, take, List·getD-append}
 use lib.IntN.{ℤ, pos, _+ℤ_, _-ℤ_, -ℤ-+ℤ-cancel}
 use lib.Signed.{_≤ℤ_}
 use Rattle.deck.specs.Lists.{below, sum}
-use Rattle.deck.specs.Assignments.{barred, entryAt, sumOf, leastAssignment, Priced}
+use Rattle.deck.specs.Assignments.{barred, entryAt, sumOf, leastAssignment}
 use Rattle.deck.specs.Calls.{taskList, assignmentKind, assignmentTasks}
 use Rattle.deck.specs.declared.AssignmentKind.the-variants.{Least}
 use Rattle.meaning.specs.Meaning.{_at_, Assignment, Unbarred, Less}

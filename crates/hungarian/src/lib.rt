@@ -301,13 +301,7 @@ fn grow(
 }
 
 // Row r matched too: on the way back from the free column to r each row takes the column that was reached from it.
-fn match_row(
-    m: usize,
-    w: &[u64; 144],
-    r: Carrier,
-    prices: &mut [u64; 24],
-    pairs: &mut [usize; 24],
-)
+fn match_row(m: usize, w: &[u64; 144], r: Carrier, prices: &mut [u64; 24], pairs: &mut [usize; 24])
     requires { ⌜ (m ≤ 12) × (r .0 < m) × Light m (now w) × Solved m (now w) (r .0) (byCarrier (now prices)) (byTask (now prices)) (byCarrier (now pairs)) (byTask (now pairs)) ⌝ }
     ensures { λ _. ⌜ Solved m (now (w .entry)) (suc (r .0)) (byCarrier (now (prices .exit))) (byTask (now (prices .exit))) (byCarrier (now (pairs .exit))) (byTask (now (pairs .exit))) ⌝ }
 {

@@ -102,14 +102,7 @@ pub fn filled(m: usize, table: &[u16]) -> [u16; 144]
 }
 
 // The entry x for carrier i and task j in the working copy for a part: barred where no assignment of the part uses it.
-fn part_entry(
-    tasks: &[u8; 12],
-    row: Carrier,
-    closed: &[u8; 12],
-    i: Carrier,
-    j: Task,
-    x: u16,
-) -> u16
+fn part_entry(tasks: &[u8; 12], row: Carrier, closed: &[u8; 12], i: Carrier, j: Task, x: u16) -> u16
     requires { ⌜ (row .0 < 12) × (j .0 < 12) ⌝ }
     ensures { λ r. ⌜ r ≡ partEntry (partAt (row .0) (now (tasks .entry)) (now (closed .entry))) (i .0) (j .0) x ⌝ }
 {
@@ -191,14 +184,7 @@ fn weight(merge: bool, x: u16, place: u64, task: Task) -> u64
 }
 
 // The weights of the entries of row i, whose digits stand at `place`.
-fn weigh_row(
-    m: usize,
-    t: &[u16; 144],
-    merge: bool,
-    place: u64,
-    i: Carrier,
-    w: &mut [u64; 144],
-)
+fn weigh_row(m: usize, t: &[u16; 144], merge: bool, place: u64, i: Carrier, w: &mut [u64; 144])
     requires { ⌜ (m ≤ 12) × (i .0 < m) × (place ≡ placeOf (i .0)) × (length (now w) ≡ 144) ⌝ }
     ensures { λ _. ⌜ RowTo (weightCell merge (now (t .entry))) (i .0) m (now (w .entry)) (now (w .exit)) × ((j : ℕ) → j < m → cell (now (t .entry)) (i .0) j ≤ 65535) ⌝ }
 {

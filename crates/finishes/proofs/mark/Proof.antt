@@ -61,7 +61,7 @@ loop-again c =
     let i = l .loop .i in
     let f : ℕ → ℕ = λ x. marked (a .n) (getD (a .layer .now) (getD (a .starts .now) x 0) 0) (a .k) (getD (a .column .now) x 0) in
     let made : r .marked .result ≡ marked (a .n) (getD (a .layer .now) (getD (a .starts .now) i 0) 0) (a .k) (getD (l .loop .column) i 0) =
-        r .marked .ensures ∙ ap₂ (λ (p e : ℕ). marked (a .n) (getD (a .layer .now) p 0) (a .k) e) (q .start-of .ensures) (r .before .before .entry-of .ensures) in
+    r .marked .ensures ∙ ap₂ (λ (p e : ℕ). marked (a .n) (getD (a .layer .now) p 0) (a .k) e) (q .start-of .ensures) (r .before .before .entry-of .ensures) in
     let set-is = sym (c .before .set-entry .ensures) in (
       omega arith,
       subst (Filled 0 (i + 1) f (a .column .now)) set-is

@@ -1,11 +1,10 @@
 -- `hungarian::match_row` meets its contract: the way back has at most as many steps as the tree has columns. Assumes nothing.
-use Prim.Native.Nat.{ℕ, suc, _+_, _≤_, _<_, _-_}
-use mathlib.Core.Path.{_≡_, refl, sym, ap, ap₂, subst, _∙_}
+use Prim.Native.Nat.{ℕ, _≤_, _<_, _-_}
+use mathlib.Core.Path.{_≡_, refl, ap, _∙_}
 use mathlib.Core.List.{List}
 use native.Mathlib.Omega.{arith}
 use lib.ListN.{length, set, length-set}
 use Rattle.meaning.specs.Meaning.{_at_}
-use Rattle.prices.specs.Matching.{Matches}
 use Rattle.prices.specs.Square.{cell}
 use Rattle.hungarian.specs.Solving.{byCarrier, byTask, Way, Reaches}
 use Rattle.hungarian.proofs.Rounds.{way-low, way-ends, way-next}

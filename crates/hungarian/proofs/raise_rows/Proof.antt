@@ -1,9 +1,7 @@
 -- `hungarian::raise_rows` meets its contract. Assumes nothing.
 use Prim.Native.Nat.{ℕ, _+_, _≤_, _-_}
 use mathlib.Core.Path.{_≡_, refl, sym, subst, ap₂, _∙_}
-use mathlib.Core.List.{List}
 use native.Mathlib.Omega.{arith}
-use Rattle.meaning.specs.Meaning.{_at_}
 use Rattle.hungarian.specs.Solving.{byCarrier, byTask, rowGain}
 use Rattle.hungarian.proofs.Gains.{RaisedTo, raised-none, raised-more, raised-all}
 use Rattle.hungarian.proofs.raise_rows.Statement.{statement}

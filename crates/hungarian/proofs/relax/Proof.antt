@@ -2,7 +2,6 @@
 use Prim.Native.Nat.{ℕ, _≤_, _-_}
 use mathlib.Core.Path.{_≡_, sym, subst}
 use native.Mathlib.Omega.{arith}
-use Rattle.meaning.specs.Meaning.{_at_}
 use Rattle.hungarian.specs.Solving.{byCarrier, byTask, Closest}
 use Rattle.hungarian.proofs.Labels.{RelaxedTo, relaxed-none, relaxed-more, relaxed-all, closest-none, closest-more}
 use Rattle.hungarian.proofs.relax.Statement.{statement}

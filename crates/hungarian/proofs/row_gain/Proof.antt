@@ -1,5 +1,5 @@
 -- `hungarian::row_gain` meets its contract. Assumes nothing.
-use Prim.Native.Nat.{ℕ, _<_, _≤_}
+use Prim.Native.Nat.{ℕ, _≤_}
 use mathlib.Core.Path.{_≡_, sym, subst, _∙_}
 use mathlib.Core.Bool.{true}
 use native.Mathlib.Omega.{arith}
@@ -27,8 +27,8 @@ column-gain-requires c κs =
     let other = c .before .before .before .if1 .left in
     let low = c .if2 .left in
     let own : marked (a .columns .now) (byCarrier (a .pairs .now) at (a .x .0)) ≡ true → a .near .now at (byCarrier (a .pairs .now) at (a .x .0)) ≤ a .total = λ h.
-        rw (← way-column (a .r .0) (byCarrier (a .pairs .now)) (a .near .now) (a .x .0) other)
-        (s .pre .2 (tree-column (a .m) (a .r .0) (byCarrier (a .pairs .now)) (a .columns .now) (a .x .0) other (omega (arith, low, e)) ∙ h)) in
+    rw (← way-column (a .r .0) (byCarrier (a .pairs .now)) (a .near .now) (a .x .0) other)
+    (s .pre .2 (tree-column (a .m) (a .r .0) (byCarrier (a .pairs .now)) (a .columns .now) (a .x .0) other (omega (arith, low, e)) ∙ h)) in
     (omega (arith, low, s .pre .0), subst (λ (k : ℕ). marked (a .columns .now) k ≡ true → a .near .now at k ≤ a .total) (sym e) own)
 
 returns-3 : tie.Need-returns-3

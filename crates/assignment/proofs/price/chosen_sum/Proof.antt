@@ -12,8 +12,7 @@ use mir.ValLaws.{toZ-ofZ}
 use mir.Val.{toZ, ofZ}
 use Rattle.deck.specs.Lists.{below, sum}
 use Rattle.prices.proofs.Sums.{sum-next}
-use Rattle.assignment.specs.Answers.{dearest, highest, Chosen}
-use Rattle.assignment.proofs.Priced.{small-fits}
+use Rattle.assignment.specs.Answers.{dearest, Chosen}
 use Rattle.assignment.proofs.price.chosen_sum.Statement.{statement}
 use Rattle.assignment.proofs.price.chosen_sum.Tie as tie
 

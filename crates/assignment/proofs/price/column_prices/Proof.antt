@@ -1,12 +1,11 @@
 -- `assignment::price::column_prices` meets its contract. Assumes nothing.
 use Prim.Native.Nat.{ℕ, _≤_, _-_}
-use mathlib.Core.Path.{_≡_, ap, subst, sym, _∙_}
+use mathlib.Core.Path.{ap, subst, sym, _∙_}
 use native.Mathlib.Omega.{arith}
 use lib.IntN.{ℤ, pos, negℤ}
 use lib.Signed.{mag}
 use mir.Syntax.{w32}
 use mir.ValLaws.{toZ-ofZ}
-use Rattle.hungarian.specs.Solving.{byTask}
 use Rattle.assignment.specs.Answers.{dearest, plainOf, columnOf}
 use Rattle.assignment.proofs.Priced.{PricesTo, prices-none, prices-more, prices-all, neg-small}
 use Rattle.assignment.proofs.price.column_prices.Statement.{statement}

@@ -26,7 +26,7 @@ answer-requires c κs =
     let s = r .before in
     let a = s .pre .1 in
     let H = rounded-handed (s .args .m) (s .args .t .now) (s .args .t3) (a .0) (a .1) (a .2) (s .args .merged .now) (k .tight-rows .result) (r .column-prices .result)
-        (r .column-prices .ensures) (k .tight-rows .ensures) (c .before .all-serve .ensures (c .if1 .taken)) in
+    (r .column-prices .ensures) (k .tight-rows .ensures) (c .before .all-serve .ensures (c .if1 .taken)) in
     (s .pre .0, (a .0, a .1, a .2, H))
 
 returns : tie.Need-returns

@@ -1,6 +1,6 @@
 -- `assignment::price::row_serves` meets its contract. Assumes nothing.
 use Prim.Native.Nat.{ℕ, _≤_, _<_, _-_}
-use mathlib.Core.Path.{_≡_, ap, ap₂, subst, _∙_}
+use mathlib.Core.Path.{subst, _∙_}
 use native.Mathlib.Omega.{arith}
 use mathlib.Core.Logic.{⊎-elim}
 use mathlib.Core.Bool.{false≢true}
@@ -15,7 +15,6 @@ use mir.ValLaws.{toZ-ofZ}
 use mir.Val.{toZ, ofZ}
 use Rattle.prices.specs.Weights.{weigh}
 use Rattle.prices.specs.Square.{cell}
-use Rattle.assignment.proofs.Priced.{small-fits}
 use Rattle.assignment.proofs.price.row_serves.Statement.{statement}
 use Rattle.assignment.proofs.price.row_serves.Tie as tie
 
@@ -59,8 +58,8 @@ loop-again c =
     let a = s .args in
     let column = toZ-ofZ w32 _ (record { sfits = q .column-of .ok }) ∙ q .column-of .ensures in
     let here : (toZ w32 (ofZ w32 (a .row)) +ℤ getD (a .columns .now) (l .loop .j) (pos 0)) ≤ℤ pos (weigh (cell (a .t .now) (a .i .0) (l .loop .j))) =
-        subst (λ (x : ℕ). (toZ w32 (ofZ w32 (a .row)) +ℤ getD (a .columns .now) (l .loop .j) (pos 0)) ≤ℤ pos (weigh x)) (v .before .entry .ensures)
-        (subst (λ (z : ℤ). (toZ w32 (ofZ w32 (a .row)) +ℤ z) ≤ℤ pos (weigh (v .before .entry .result))) column (v .serves .ensures (not-false _ (c .if1 .left)))) in
+    subst (λ (x : ℕ). (toZ w32 (ofZ w32 (a .row)) +ℤ getD (a .columns .now) (l .loop .j) (pos 0)) ≤ℤ pos (weigh x)) (v .before .entry .ensures)
+    (subst (λ (z : ℤ). (toZ w32 (ofZ w32 (a .row)) +ℤ z) ≤ℤ pos (weigh (v .before .entry .result))) column (v .serves .ensures (not-false _ (c .if1 .left)))) in
     (omega arith, λ k h. ⊎-elim (λ e. rw e here) (λ g. l .loop .inv .1 k g) (eq-or-lt-of-le (le-of-suc-le-suc (rw add-one at h))))
 
 returns-2 : tie.Need-returns-2 Inv-loop μ-loop

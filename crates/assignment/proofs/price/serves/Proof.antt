@@ -1,11 +1,9 @@
 -- `assignment::price::serves` meets its contract. Assumes nothing.
 use borrow.Author.Needs.{needs}
 use mathlib.Core.Path.{_≡_, refl}
-use mathlib.Core.Bool.{Bool, true}
 use native.Mathlib.Omega.{arith}
-use lib.IntN.{ℤ, pos, _+ℤ_}
-use lib.Signed.{mag, leZ, leZ-yes}
-use lib.Dec.{T}
+use lib.IntN.{ℤ, _+ℤ_}
+use lib.Signed.{mag, leZ-yes}
 use mir.Syntax.{w32}
 use mir.Val.{toZ, ofZ}
 use mir.ValLaws.{toZ-ofZ}

@@ -7,7 +7,6 @@ use lib.IntN.{ℤ, pos, _-ℤ_}
 use lib.Signed.{mag}
 use mir.Syntax.{w32}
 use mir.ValLaws.{toZ-ofZ}
-use mir.Val.{toZ, ofZ}
 use Rattle.meaning.specs.Meaning.{_at_}
 use Rattle.prices.specs.Square.{cell}
 use Rattle.assignment.specs.Answers.{dearest, highest, tightOf}
@@ -67,8 +66,8 @@ loop-again c =
     let column = toZ-ofZ w32 _ (record { sfits = c .before .column-of .ok }) ∙ c .before .column-of .ensures in
     let e = toZ-ofZ w32 (c .tight .result) (record { sfits = c .tight .ok }) in
     let made : c .tight .result ≡ tightOf (a .t .now) (a .tasks .now) (a .columns .now) (l .loop .i) =
-        c .tight .ensures .0 ∙ ap₂ (λ (x : ℕ) (z : ℤ). pos x -ℤ z) (c .before .before .entry .ensures) column
-        ∙ ap (λ (j : ℕ). pos (cell (a .t .now) (l .loop .i) j) -ℤ getD (a .columns .now) j (pos 0)) (k .task-of .ensures .0) in (
+    c .tight .ensures .0 ∙ ap₂ (λ (x : ℕ) (z : ℤ). pos x -ℤ z) (c .before .before .entry .ensures) column
+    ∙ ap (λ (j : ℕ). pos (cell (a .t .now) (l .loop .i) j) -ℤ getD (a .columns .now) j (pos 0)) (k .task-of .ensures .0) in (
       omega arith,
       prices-more highest (tightOf (a .t .now) (a .tasks .now) (a .columns .now)) (l .loop .i) (l .loop .r) _ (omega arith) (e ∙ made)
           (subst (λ (z : ℤ). mag z ≤ highest) (sym e) (c .tight .ensures .1)) (l .loop .inv .1),
