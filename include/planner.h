@@ -61,7 +61,7 @@ void planner_least_path(const uint8_t *sheet, size_t sheet_len, size_t carrier, 
  * The first by sum, then by list of tasks. Cause 12.
  * tasks[12]: the task of each carrier, 255 from m on, and 255 throughout if there is no assignment or the call is refused.
  * rows[12], columns[12]: prices. A row's plus a column's is at most each entry that is not barred, and equals it on the chosen
- *       ones; 0 from m on, and 0 throughout without an assignment.
+ *       ones; a column's is at most 0; 0 from m on, and 0 throughout without an assignment.
  * numbers[3]: the cause; 1 if there is an assignment; its sum. */
 void planner_least_assignment(uint8_t m, const uint16_t *table, size_t table_len, uint8_t *tasks, int32_t *rows,
                               int32_t *columns, uint32_t *numbers);

@@ -41,6 +41,7 @@ pub struct Assignment {
     pub tasks: Vec<Task>,
     /// A row's plus a column's price is at most each entry that is not barred, and equals it on the chosen ones.
     pub row_prices: Vec<i32>,
+    /// At most 0.
     pub column_prices: Vec<i32>,
 }
 

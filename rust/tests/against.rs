@@ -243,6 +243,7 @@ fn assignments() {
                         let (price, entry) = (one.row_prices[i] + one.column_prices[j], table[i * m + j]);
                         assert!(entry == BARRED || price <= i32::from(entry), "case {case}");
                         assert!(j != task.0 || price == i32::from(entry), "case {case}");
+                        assert!(one.column_prices[j] <= 0, "case {case}");
                     }
                 }
             }
