@@ -8,7 +8,7 @@ use mathlib.Core.List.{List, map}
 use mathlib.Core.Option.{some}
 use native.Mathlib.Omega.{arith}
 use lib.ListN.{getD, take, List·getD-append}
-use lib.IntN.{ℤ, pos, _+ℤ_, _-ℤ_, -ℤ-+ℤ-cancel}
+use lib.IntN.{ℤ, pos, negℤ, _+ℤ_, _-ℤ_, -ℤ-+ℤ-cancel}
 use lib.Signed.{_≤ℤ_}
 use Rattle.deck.specs.Lists.{below, sum}
 use Rattle.deck.specs.Assignments.{barred, entryAt, sumOf, leastAssignment}
@@ -86,16 +86,19 @@ module _ (m : ℕ) (small : m ≤ 12) (t w u v task carrier : List ℕ) (W : Wei
     solved-low k lk = let p = prices-low k lk in (omega arith, omega arith)
 
 -- THE SECOND RUN'S PRICES, as they are handed out
-module _ (m : ℕ) (table prices a : List ℕ) (least : leastAssignment m table ≡ some a) (P : Serves m table a (byCarrier prices) (byTask prices)) (rows columns : List ℤ)
-    (R : Prices m highest (rowOf prices) rows) (C : Prices m dearest (columnOf false prices) columns) where
+module _ (m : ℕ) (table prices kept a : List ℕ) (least : leastAssignment m table ≡ some a) (P : Serves m table a (byCarrier prices) (byTask prices)) (same : (k : ℕ) → k < m → kept at k ≡ byTask prices at k)
+    (rows columns : List ℤ) (R : Prices m highest (rowOf prices) rows) (C : Prices m dearest (columnOf false kept) columns) where
+  column : (k : ℕ) → k < m → getD columns k (pos 0) ≡ negℤ (pos (byTask prices at k))
+  column k lk = C .each k lk ∙ ap (λ (x : ℕ). negℤ (pos x)) (same k lk)
+
   pub solved-handed : Handed m table a rows columns
   solved-handed = record {
     priced = record {
-      feasible = λ i j li lj n. rw (R .each i li, C .each j lj)
+      feasible = λ i j li lj n. rw (R .each i li, column j lj)
           (dual-le (byCarrier prices at i) (byTask prices at j) (entryAt m table i j) (omega (arith, P .feasible i j li lj, weigh-open (entryAt m table i j) n)));
-      tight = λ i li. rw (R .each i li, C .each (a at i) (least-assignment-meant m table a least .0 .0 .tasks i li))
+      tight = λ i li. rw (R .each i li, column (a at i) (least-assignment-meant m table a least .0 .0 .tasks i li))
           (dual-tight (byCarrier prices at i) (byTask prices at (a at i)) (entryAt m table i (a at i)) (P .tight i li));
-      below = λ j lj. rw (C .each j lj) (neg-below (byTask prices at j));
+      below = λ j lj. rw (column j lj) (neg-below (byTask prices at j));
     };
     small = (R .small, C .small);
     zero = (R .zero, C .zero);
@@ -128,7 +131,7 @@ module _ (m : ℕ) (t tasks a : List ℕ) (least : leastAssignment m (copied m t
 
     pub rounded-handed : Handed m (copied m t) a rows columns
     rounded-handed = record {
-      priced = record { feasible = rounded-feasible; tight = rounded-tight; below = λ j lj. rw (C .each j lj) (neg-below (plainOf true (byTask merged at j))) };
+      priced = record { feasible = rounded-feasible; tight = rounded-tight; below = λ j lj. rw (C .each j lj) (neg-below (plainOf true (merged at j))) };
       small = (R .small, C .small);
       zero = (R .zero, C .zero);
     }

@@ -13,7 +13,7 @@ use Rattle.deck.specs.declared.AssignmentAnswer.{AssignmentAnswer}
 use Rattle.meaning.specs.Meaning.{_at_}
 use Rattle.prices.specs.Weights.{weigh}
 use Rattle.prices.specs.Square.{cell}
-use Rattle.hungarian.specs.Solving.{byCarrier, byTask}
+use Rattle.hungarian.specs.Solving.{byCarrier}
 
 -- the whole answer for an accepted table
 pub record Answered (m : ℕ) (table : List ℕ) (r : AssignmentAnswer) : Type 0 where
@@ -35,7 +35,7 @@ plainOf merged x = cond merged ((x / 4458050224128 + 1) / 2) x
 
 -- the price of column k, which the method has negated, and of row k
 abbrev pub columnOf : Bool → List ℕ → ℕ → ℤ
-columnOf merged prices k = negℤ (pos (plainOf merged (byTask prices at k)))
+columnOf merged columns k = negℤ (pos (plainOf merged (columns at k)))
 
 abbrev pub rowOf : List ℕ → ℕ → ℤ
 rowOf prices k = pos (byCarrier prices at k)

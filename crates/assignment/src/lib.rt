@@ -44,6 +44,6 @@ pub fn least_assignment(m: u8, table: &[u16]) -> AssignmentAnswer
         return without(AssignmentKind::NoAssignment);
     }
     let tasks = first.tasks;
-    let prices = f.prices;
-    price::priced(n, &t, tasks, &prices)
+    let columns = f.columns;
+    price::priced(n, &t, tasks, &columns)
 }

@@ -5,7 +5,6 @@ use deck::AssignmentAnswer;
 use deck::AssignmentKind;
 use deck::Carrier;
 use deck::Task;
-use hungarian::column_price;
 use hungarian::row_price;
 use tables::entry;
 use tables::task_of;
@@ -25,7 +24,7 @@ ghost use Rattle.deck.specs.Calls.{taskList};
 ghost use Rattle.meaning.specs.Meaning.{_at_};
 ghost use Rattle.prices.specs.Weights.{weigh as weighOf};
 ghost use Rattle.prices.specs.Square.{cell, copied};
-ghost use Rattle.hungarian.specs.Solving.{byCarrier, byTask};
+ghost use Rattle.hungarian.specs.Solving.{byCarrier};
 ghost use Rattle.assignment.specs.Answers.{Answered, Chosen, Handed, Prices, Small, plainOf, rowOf, columnOf, tightOf, dearest, highest};
 
 // The price of a row.
@@ -109,14 +108,23 @@ fn negated(x: u64) -> i32
     -y
 }
 
+// The price of a column that the method has, by merged or by plain weights.
+fn kept(columns: &[u64; 12], column: Task) -> u64
+    requires { ⌜ column .0 < 12 ⌝ }
+    ensures { λ r. ⌜ r ≡ now (columns .entry) at (column .0) ⌝ }
+{
+    let j = column.0;
+    columns[j]
+}
+
 // The prices of the columns, 0 past m.
-fn column_prices(m: usize, prices: &[u64; 24], merged: bool) -> [i32; 12]
-    requires { ⌜ (m ≤ 12) × (merged ≡ false → (k : ℕ) → k < m → byTask (now prices) at k ≤ dearest) ⌝ }
-    ensures { λ r. ⌜ Prices m dearest (columnOf merged (now (prices .entry))) r ⌝ }
+fn column_prices(m: usize, columns: &[u64; 12], merged: bool) -> [i32; 12]
+    requires { ⌜ (m ≤ 12) × (merged ≡ false → (k : ℕ) → k < m → now columns at k ≤ dearest) ⌝ }
+    ensures { λ r. ⌜ Prices m dearest (columnOf merged (now (columns .entry))) r ⌝ }
 {
     let mut r = [0i32; 12];
     for k in 0..m {
-        let x = negated(plain(merged, column_price(prices, Task(k))));
+        let x = negated(plain(merged, kept(columns, Task(k))));
         r[k] = x;
     }
     r
@@ -152,7 +160,8 @@ fn solved(m: usize, t: &[u16; 144], tasks: [u8; 12]) -> AssignmentAnswer
     let mut pairs = [12usize; 24];
     hungarian::solve(m, &w, &mut prices, &mut pairs);
     let rows = row_prices(m, &prices);
-    let columns = column_prices(m, &prices, false);
+    let negated = hungarian::columns_of(&prices);
+    let columns = column_prices(m, &negated, false);
     answer(m, t, tasks, rows, columns)
 }
 
@@ -215,7 +224,7 @@ fn all_serve(m: usize, t: &[u16; 144], rows: &[i32; 12], columns: &[i32; 12]) ->
 
 // The whole answer, for the tasks of the least assignment. The columns' prices are those by merged weights, rounded, and the rows'
 // are tight on the tasks. They are tested: rounded prices may fail; then a second run on plain weights gives the prices.
-pub fn priced(m: usize, t: &[u16; 144], tasks: [u8; 12], merged: &[u64; 24]) -> AssignmentAnswer
+pub fn priced(m: usize, t: &[u16; 144], tasks: [u8; 12], merged: &[u64; 12]) -> AssignmentAnswer
     requires { ⌜ (m ≤ 12) × ((a : List ℕ) × (leastAssignment m (copied m (now t)) ≡ some a) × (tasks ≡ taskList a)) ⌝ }
     ensures { λ r. ⌜ Answered m (copied m (now (t .entry))) r ⌝ }
 {

@@ -27,10 +27,10 @@ pub struct Candidate {
     pub tasks: [u8; 12],
 }
 
-// The same with the prices by merged weights: those of the rows, then those of the columns, negated.
+// The same with the negated prices of the columns, by merged weights.
 pub struct PricedCandidate {
     pub candidate: Candidate,
-    pub prices: [u64; 24],
+    pub columns: [u64; 12],
 }
 
 // The sum of the weights of the entries that an assignment uses.
@@ -78,6 +78,7 @@ pub fn first_priced(m: usize, t: &[u16; 144]) -> PricedCandidate
     let mut prices = [0u64; 24];
     let mut pairs = [12usize; 24];
     hungarian::solve(m, &w, &mut prices, &mut pairs);
+    let columns = hungarian::columns_of(&prices);
     let sum = total(m, t, &pairs);
     if HEAVY <= sum {
         return PricedCandidate {
@@ -86,7 +87,7 @@ pub fn first_priced(m: usize, t: &[u16; 144]) -> PricedCandidate
                 sum: 0,
                 tasks: [255; 12],
             },
-            prices: prices,
+            columns: columns,
         };
     }
     PricedCandidate {
@@ -95,7 +96,7 @@ pub fn first_priced(m: usize, t: &[u16; 144]) -> PricedCandidate
             sum: (sum % 4294967296) as u32,
             tasks: listed(m, &pairs),
         },
-        prices: prices,
+        columns: columns,
     }
 }
 

@@ -52,6 +52,17 @@ pub fn column_price(prices: &[u64; 24], column: Task) -> u64
     prices[12 + j]
 }
 
+// The negated prices of the columns.
+pub fn columns_of(prices: &[u64; 24]) -> [u64; 12]
+    ensures { λ r. ⌜ ((k : ℕ) → k < 12 → r at k ≡ byTask (now (prices .entry)) at k) ⌝ }
+{
+    let mut columns = [0u64; 12];
+    for k in 0..12usize {
+        columns[k] = column_price(prices, Task(k));
+    }
+    columns
+}
+
 fn set_row_price(prices: &mut [u64; 24], row: Carrier, x: u64)
     requires { ⌜ row .0 < 12 ⌝ }
     ensures { λ _. ⌜ (byCarrier (now (prices .exit)) ≡ set (byCarrier (now (prices .entry))) (row .0) x) × (byTask (now (prices .exit)) ≡ byTask (now (prices .entry))) ⌝ }

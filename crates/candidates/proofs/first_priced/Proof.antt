@@ -26,9 +26,12 @@ solve-requires c κs =
       nothing-solved (s .args .m) (g .weights .result) (s .pre),
     )
 
+columns-of-requires : tie.Need-columns-of-requires
+columns-of-requires c κs = search needs
+
 total-requires : tie.Need-total-requires
 total-requires c κs =
-    let b = c .before in
+    let b = c .before .before .before in
     let g = b .before .before .before .before in
     let s = g .before in
     let o = b .solve .last .1 .1 in
@@ -36,19 +39,19 @@ total-requires c κs =
 
 returns : tie.Need-returns
 returns c =
-    let b = c .before .before .before in
+    let b = c .before .before .before .before .before in
     let g = b .before .before .before .before in
     let s = g .before in
     let o = b .solve .last .1 .1 in
     candidate-none (s .args .m) _
     (first-none (s .args .m) (s .pre) (s .args .t .now) (g .weights .result) (byCarrier (o .0)) (byTask (o .0)) (byCarrier (o .1 .0)) (byTask (o .1 .0)) (g .weights .ensures) (solved b) (c .before .total .result) (c .before .total .ensures) (c .if1 .taken))
 
-cast-t18 : tie.Need-cast-t18
-cast-t18 c = search needs
+cast-t19 : tie.Need-cast-t19
+cast-t19 c = search needs
 
 listed-requires : tie.Need-listed-requires
 listed-requires c κs =
-    let b = c .before .before .before .before in
+    let b = c .before .before .before .before .before .before in
     let g = b .before .before .before .before in
     let s = g .before in
     let o = b .solve .last .1 .1 in
@@ -56,7 +59,7 @@ listed-requires c κs =
 
 returns-2 : tie.Need-returns-2
 returns-2 c =
-    let b = c .before .before .before .before .before in
+    let b = c .before .before .before .before .before .before .before in
     let g = b .before .before .before .before in
     let s = g .before in
     let o = b .solve .last .1 .1 in
@@ -71,8 +74,9 @@ first-priced-spec =
     (tie.spec
     weights-requires
     solve-requires
+    columns-of-requires
     total-requires
     returns
-    cast-t18
+    cast-t19
     listed-requires
     returns-2)

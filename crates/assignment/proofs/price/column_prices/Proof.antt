@@ -12,21 +12,21 @@ use Rattle.assignment.proofs.price.column_prices.Statement.{statement}
 use Rattle.assignment.proofs.price.column_prices.Tie as tie
 
 abbrev Inv-loop : tie.InvT-loop
-Inv-loop m prices merged r₀ k₀ r k = (k ≤ m) × PricesTo dearest (columnOf merged prices) k r
+Inv-loop m columns merged r₀ k₀ r k = (k ≤ m) × PricesTo dearest (columnOf merged columns) k r
 
 abbrev μ-loop : tie.MeasureT-loop
-μ-loop m prices merged r₀ k₀ r k = m - k
+μ-loop m columns merged r₀ k₀ r k = m - k
 
 loop-holds : tie.Need-loop-holds Inv-loop μ-loop
 loop-holds c = (omega arith, prices-none _ _)
 
-column-price-requires : tie.Need-column-price-requires Inv-loop μ-loop
-column-price-requires c κs = omega arith
+kept-requires : tie.Need-kept-requires Inv-loop μ-loop
+kept-requires c κs = omega arith
 
 plain-requires : tie.Need-plain-requires Inv-loop μ-loop
 plain-requires c κs =
     let l = c .before .before in
-    λ e. rw (c .column-price .ensures) (l .before .pre .1 e (l .loop .k) (c .before .loop-test .taken))
+    λ e. rw (c .kept .ensures) (l .before .pre .1 e (l .loop .k) (c .before .loop-test .taken))
 
 negated-requires : tie.Need-negated-requires Inv-loop μ-loop
 negated-requires c κs = c .plain .ensures .1
@@ -50,8 +50,8 @@ loop-again c =
     let p = c .before .plain in
     let e = toZ-ofZ w32 (c .negated .result) (record { sfits = c .negated .ok }) ∙ c .negated .ensures in (
       omega arith,
-      prices-more dearest (columnOf (a .merged) (a .prices .now)) (l .loop .k) (l .loop .r) _ (omega arith)
-          (e ∙ ap (λ (x : ℕ). negℤ (pos x)) (p .ensures .0 ∙ ap (plainOf (a .merged)) (c .before .before .column-price .ensures)))
+      prices-more dearest (columnOf (a .merged) (a .columns .now)) (l .loop .k) (l .loop .r) _ (omega arith)
+          (e ∙ ap (λ (x : ℕ). negℤ (pos x)) (p .ensures .0 ∙ ap (plainOf (a .merged)) (c .before .before .kept .ensures)))
           (subst (λ (z : ℤ). mag z ≤ dearest) (sym e) (omega (arith, neg-small (p .result), p .ensures .1))) (l .loop .inv .1),
     )
 
@@ -59,7 +59,7 @@ returns : tie.Need-returns Inv-loop μ-loop
 returns c =
     let l = c .before .loop in
     let a = c .before .before .args in
-    prices-all dearest (columnOf (a .merged) (a .prices .now)) (a .m) (l .k) (l .r) (omega arith) (l .inv .1)
+    prices-all dearest (columnOf (a .merged) (a .columns .now)) (a .m) (l .k) (l .r) (omega arith) (l .inv .1)
 
 pub column-prices-spec : {M : Type 1} → statement M
 column-prices-spec =
@@ -68,7 +68,7 @@ column-prices-spec =
     Inv-loop
     μ-loop
     loop-holds
-    column-price-requires
+    kept-requires
     plain-requires
     negated-requires
     mul-r

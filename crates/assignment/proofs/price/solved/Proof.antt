@@ -1,5 +1,6 @@
 -- `assignment::price::solved` meets its contract. Assumes nothing.
 use Prim.Native.Nat.{ℕ, _≤_, _<_}
+use native.Mathlib.Omega.{arith}
 use borrow.Author.Needs.{needs}
 use Rattle.meaning.specs.Meaning.{_at_}
 use Rattle.assignment.specs.Answers.{dearest}
@@ -42,21 +43,34 @@ row-prices-requires c κs =
     let s = b .before .before .before .before .before in
     (s .pre .0, λ k l. low b k l .0)
 
+columns-of-requires : tie.Need-columns-of-requires
+columns-of-requires c κs = search needs
+
 column-prices-requires : tie.Need-column-prices-requires
 column-prices-requires c κs =
-    let b = c .before .before .before in
+    let b = c .before .before .before .before .before in
     let s = b .before .before .before .before .before in
-    (s .pre .0, λ e k l. low b k l .1)
+    (s .pre .0, λ e k l. rw (c .before .columns-of .ensures k (omega (arith, l, s .pre .0))) (low b k l .1))
 
 answer-requires : tie.Need-answer-requires
 answer-requires c κs =
-    let b = c .before .before .before .before in
+    let q = c .before .before in
+    let r = q .before .before in
+    let b = r .before .before in
     let g = b .before .before .before .before in
     let s = g .before in
     let o = b .solve .last .1 .1 in
     let a = s .pre .1 in
-    let P = solved-serves (s .args .m) (s .pre .0) (s .args .t .now) (g .weights .result) (byCarrier (o .0)) (byTask (o .0)) (byCarrier (o .1 .0)) (byTask (o .1 .0)) (g .weights .ensures) (solution b) (a .0) (a .1) in
-    (s .pre .0, (a .0, a .1, a .2, solved-handed (s .args .m) _ (o .0) (a .0) (a .1) P (c .before .before .row-prices .result) (c .column-prices .result) (c .before .before .row-prices .ensures) (c .column-prices .ensures)))
+    let P = solved-serves (s .args .m) (s .pre .0) (s .args .t .now) (g .weights .result) (byCarrier (o .0)) (byTask (o .0)) (byCarrier (o .1 .0)) (byTask (o .1 .0)) (g .weights .ensures) (solution b) (a .0) (a .1) in (
+      s .pre .0,
+      (
+        a .0,
+        a .1,
+        a .2,
+        solved-handed (s .args .m) _ (o .0) (q .columns-of .result) (a .0) (a .1) P (λ k l. q .columns-of .ensures k (omega (arith, l, s .pre .0)))
+            (r .row-prices .result) (c .column-prices .result) (r .row-prices .ensures) (c .column-prices .ensures),
+      ),
+    )
 
 returns : tie.Need-returns
 returns c = search needs
@@ -68,6 +82,7 @@ solved-spec =
     weights-requires
     solve-requires
     row-prices-requires
+    columns-of-requires
     column-prices-requires
     answer-requires
     returns)
