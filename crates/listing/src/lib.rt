@@ -138,8 +138,8 @@ fn put_carriers(
     let n = h + 1;
     let mut next = at;
     for i in 0..m {
-        let j = byte_wide(tasks[i]);
-        next = put_carrier(s, Carrier(i), Task(j), piece(paths, i * n, n), text, next);
+        let j = tables::task_of(&tasks, Carrier(i));
+        next = put_carrier(s, Carrier(i), j, piece(paths, i * n, n), text, next);
     }
     next
 }

@@ -5,7 +5,6 @@ use deck::Carrier;
 use deck::CheckAnswer;
 use deck::CollisionAnswer;
 use deck::PathAnswer;
-use deck::Task;
 use deck::causes;
 ghost use mathlib.Core.Path.{_≡_};
 ghost use Prim.Native.Nat.{suc, _*_, _<_, _≤_};
@@ -38,8 +37,8 @@ fn flowtime(s: &[u8], w: usize, m: usize, h: usize, tasks: [u8; 12], paths: &[u1
     let n = h + 1;
     let mut sum = 0;
     for i in 0..m {
-        let j = tasks::wide(tasks[i]);
-        match path_check::path_finish(s, w, h, Carrier(i), Task(j), &paths[i * n..i * n + n]) {
+        let j = tables::task_of(&tasks, Carrier(i));
+        match path_check::path_finish(s, w, h, Carrier(i), j, &paths[i * n..i * n + n]) {
             PathAnswer::Found(t) => sum = sum + t,
             PathAnswer::NoPath => return CheckAnswer::No,
             PathAnswer::Refused(_) => return CheckAnswer::No,

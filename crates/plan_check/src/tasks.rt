@@ -1,4 +1,6 @@
 // Task lists of twelve numbers: the first m are an assignment, and 255 follows.
+use deck::Carrier;
+use tables::task_of;
 ghost use mathlib.Core.Path.{_≡_};
 ghost use Prim.Native.Nat.{_+_, _<_, _≤_};
 ghost use lib.ListN.{getD, take, drop};
@@ -6,20 +8,16 @@ ghost use lib.Dec.{eqb};
 ghost use Rattle.deck.specs.Lists.{all, has};
 ghost use Rattle.deck.specs.PlanCheck.{isAssignment};
 
-pub fn wide(x: u8) -> usize
-    ensures { λ r. ⌜ (r ≡ x) × (r < 256) ⌝ }
+// The carrier's task stands among the first m once more, after it.
+fn again(tasks: [u8; 12], carrier: Carrier, m: usize) -> bool
+    requires { ⌜ (carrier .0 < m) × (m ≤ 12) ⌝ }
+    ensures { λ r. ⌜ r ≡ has (getD tasks (carrier .0) 0) (drop (carrier .0 + 1) (take m tasks)) ⌝ }
 {
-    x as usize
-}
-
-// The number at i stands among the first m once more, after i.
-fn again(tasks: [u8; 12], i: usize, m: usize) -> bool
-    requires { ⌜ (i < m) × (m ≤ 12) ⌝ }
-    ensures { λ r. ⌜ r ≡ has (getD tasks i 0) (drop (i + 1) (take m tasks)) ⌝ }
-{
-    let x = tasks[i];
+    let i = carrier.0;
+    let j = task_of(&tasks, carrier);
     for k in i + 1..m {
-        if tasks[k] == x {
+        let other = task_of(&tasks, Carrier(k));
+        if other.0 == j.0 {
             return true;
         }
     }
@@ -32,10 +30,11 @@ pub fn assigns(tasks: [u8; 12], m: usize) -> bool
     ensures { λ r. ⌜ r ≡ isAssignment m (take m tasks) ⌝ }
 {
     for i in 0..m {
-        if m <= wide(tasks[i]) {
+        let j = task_of(&tasks, Carrier(i));
+        if m <= j.0 {
             return false;
         }
-        if again(tasks, i, m) {
+        if again(tasks, Carrier(i), m) {
             return false;
         }
     }

@@ -34,20 +34,17 @@ add-n c = omega (arith, c .before .before .before .pre .2, accepted-horizon _ (c
 loop-holds : tie.Need-loop-holds Inv-loop μ-loop
 loop-holds c = (omega arith, wrote-none (now (c .before .before .before .args .text)) (c .before .before .before .args .at) (c .before .before .before .pre .3))
 
-array-read-byte-wide : tie.Need-array-read-byte-wide Inv-loop μ-loop
-array-read-byte-wide c = omega (arith, few (c .before .before .before .before .before))
-
-byte-wide-requires : tie.Need-byte-wide-requires Inv-loop μ-loop
-byte-wide-requires c κs = tt
+task-of-requires : tie.Need-task-of-requires Inv-loop μ-loop
+task-of-requires c κs = omega (arith, few (c .before .before .before .before .before .before))
 
 mul-piece : tie.Need-mul-piece Inv-loop μ-loop
-mul-piece c = omega (arith, words-fit (c .before .before .before .before .before .before) (c .before .before .loop .i) (c .before .loop-test .taken))
+mul-piece c = omega (arith, words-fit (c .before .before .before .before .before .before .before) (c .before .before .before .loop .i) (c .before .before .loop-test .taken))
 
 piece-requires : tie.Need-piece-requires Inv-loop μ-loop
-piece-requires c κs = omega (arith, words-fit (c .before .before .before .before .before .before) (c .before .before .loop .i) (c .before .loop-test .taken))
+piece-requires c κs = omega (arith, words-fit (c .before .before .before .before .before .before .before) (c .before .before .before .loop .i) (c .before .before .loop-test .taken))
 
 put-carrier-requires : tie.Need-put-carrier-requires Inv-loop μ-loop
-put-carrier-requires c κs = (c .before .before .before .before .before .before .before .before .pre .0, search needs)
+put-carrier-requires c κs = (c .before .before .before .before .before .before .before .before .before .pre .0, search needs)
 
 add-i : tie.Need-add-i Inv-loop μ-loop
 add-i c = search needs
@@ -56,7 +53,13 @@ loop-less : tie.Need-loop-less Inv-loop μ-loop
 loop-less c = search needs
 
 loop-again : tie.Need-loop-again Inv-loop μ-loop
-loop-again c = (omega arith, line-more (read (now (c .before .before .before .before .before .before .before .before .before .before .before .args .s))) (c .before .before .before .before .before .before .before .before .before .before .before .args .t4) (c .before .before .before .before .before .before .before .before .before .before .before .args .m) (c .before .before .before .before .before .before .before .before .before .before .before .args .h) (now (c .before .before .before .before .before .before .before .before .before .before .before .args .paths)) (c .before .before .before .before .before .before .before .loop .i) (c .before .before .before .before .before .before .before .before .before .before .before .args .h + 1) (c .before .before .before .before .before .byte-wide .result) (now (c .before .before .before .before .piece .result)) (add-one _) (c .before .before .before .before .before .before .loop-test .taken) (omega (arith, few (c .before .before .before .before .before .before .before .before .before .before .before), c .before .before .before .before .before .before .loop-test .taken, good-length (eInt w8) 12 (c .before .before .before .before .before .before .before .before .before .before .before .args .t4) _ (c .before .before .before .before .before .before .before .before .before .before .before .good .1 .1 .1 .0))) (c .before .before .before .before .before .before .before .before .before .before .before .pre .3) (c .before .before .before .before .before .byte-wide .ensures .0) (c .before .before .before .before .piece .ensures) (c .before .before .before .before .before .before .before .loop .inv .1) (c .before .before .put-carrier .ensures))
+loop-again c =
+    let w = c .before .before .before .before .before in
+    let l = w .before .before in
+    let s = l .before .before .before .before .before in (
+      omega arith,
+      line-more (read (now (s .args .s))) (s .args .t4) (s .args .m) (s .args .h) (now (s .args .paths)) (l .before .loop .i) (s .args .h + 1) (w .task-of .result .0) (now (c .before .before .before .before .piece .result)) (add-one _) (l .loop-test .taken) (omega (arith, few s, l .loop-test .taken, good-length (eInt w8) 12 (s .args .t4) _ (s .good .1 .1 .1 .0))) (s .pre .3) (w .task-of .ensures .0) (c .before .before .before .before .piece .ensures) (l .before .loop .inv .1) (c .before .before .put-carrier .ensures),
+    )
 
 same-length : tie.Need-same-length Inv-loop μ-loop
 same-length c = search needs
@@ -72,8 +75,7 @@ put-carriers-spec =
     μ-loop
     add-n
     loop-holds
-    array-read-byte-wide
-    byte-wide-requires
+    task-of-requires
     mul-piece
     piece-requires
     put-carrier-requires

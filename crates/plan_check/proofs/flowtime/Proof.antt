@@ -40,13 +40,16 @@ row : (s : tie.Start Inv-loop μ-loop) (i : ℕ) → i < s .args .m → Row (now
 row s i l = row-within (s .args .m) (s .args .h) (s .args .h + 1) (now (s .args .paths)) (add-one (s .args .h)) i (omega (arith, s .pre .4)) l
 
 -- the words of the carrier whose turn it is, and its task
-inside : (c : tie.After-wide Inv-loop μ-loop) → let s = c .before .before .before .before .before in Row (now (s .args .paths)) (s .args .h + 1) (c .before .before .loop .i)
-inside c = row (c .before .before .before .before .before) (c .before .before .loop .i) (c .before .loop-test .taken)
+inside : (c : tie.After-task-of Inv-loop μ-loop) → let l = c .before .before in let s = l .before .before .before .before in Row (now (s .args .paths)) (s .args .h + 1) (l .before .loop .i)
+inside c =
+    let l = c .before .before in
+    row (l .before .before .before .before) (l .before .loop .i) (l .loop-test .taken)
 
-task-is : (c : tie.After-wide Inv-loop μ-loop) → let s = c .before .before .before .before .before in c .wide .result ≡ getD (take (s .args .m) (s .args .t5)) (c .before .before .loop .i) 0
+task-is : (c : tie.After-task-of Inv-loop μ-loop) → let l = c .before .before in let s = l .before .before .before .before in c .task-of .result .0 ≡ getD (take (s .args .m) (s .args .t5)) (l .before .loop .i) 0
 task-is c =
-    let s = c .before .before .before .before .before in
-    c .wide .ensures .0 ∙ sym (getD-take (s .args .m) (s .args .t5) (c .before .before .loop .i) 0 (c .before .loop-test .taken))
+    let l = c .before .before in
+    let s = l .before .before .before .before in
+    c .task-of .ensures .0 ∙ sym (getD-take (s .args .m) (s .args .t5) (l .before .loop .i) 0 (l .loop-test .taken))
 
 add-n : tie.Need-add-n Inv-loop μ-loop
 add-n c = omega (arith, c .before .before .pre .3, accepted-horizon _ (c .before .before .pre .0))
@@ -56,13 +59,10 @@ loop-holds c =
     let s = c .before .before in
     (omega arith, flow-start _ _ _ _ (la s) (lp s))
 
-array-read-wide : tie.Need-array-read-wide Inv-loop μ-loop
-array-read-wide c =
-    let s = c .before .before .before .before in
+task-of-requires : tie.Need-task-of-requires Inv-loop μ-loop
+task-of-requires c κs =
+    let s = c .before .before .before .before .before in
     omega (arith, few s)
-
-wide-requires : tie.Need-wide-requires Inv-loop μ-loop
-wide-requires c κs = tt
 
 mul-path-finish : tie.Need-mul-path-finish Inv-loop μ-loop
 mul-path-finish c = omega (arith, inside c)
@@ -87,7 +87,7 @@ part-path-finish-end c = omega (arith, inside c)
 
 path-finish-requires : tie.Need-path-finish-requires Inv-loop μ-loop
 path-finish-requires c κs =
-    let l = c .before .before in
+    let l = c .before .before .before in
     let s = l .before .before .before .before in
     (s .pre .0, s .pre .1, s .pre .3, piece-long (s .args .h) (s .args .h + 1) (l .before .loop .i) (now (s .args .paths)) (add-one _) (row s (l .before .loop .i) (l .loop-test .taken)))
 
@@ -97,7 +97,7 @@ enum-known-t c = search needs
 add-sum : tie.Need-add-sum Inv-loop μ-loop
 add-sum c =
     let w = c .before .before .before .before .before in
-    let l = w .before in
+    let l = w .before .before in
     let s = l .before .before .before .before in
     omega (arith, few s, l .before .loop .inv .0, path-small _ _ _ _ (c .before .t .given .0 .0) (c .before .before .before .path-finish .ensures) (c .before .t .given .1), accepted-horizon _ (s .pre .0))
 
@@ -107,7 +107,7 @@ enum-told c = search needs
 returns : tie.Need-returns Inv-loop μ-loop
 returns c =
     let w = c .before .before .before .before in
-    let l = w .before in
+    let l = w .before .before in
     let s = l .before .before .before .before in
     sym (l .before .loop .inv .1 ∙ flow-none _ _ _ _ (la s) (lp s) (l .before .loop .sum) (l .before .loop .i) (l .loop-test .taken) (task-is w) (piece-is _ _ _ _ _ (add-one _) (l .loop-test .taken)) (c .before .before .path-finish .ensures) (c .enum-told .given .1))
 
@@ -117,22 +117,22 @@ enum-told-2 c = search needs
 returns-2 : tie.Need-returns-2 Inv-loop μ-loop
 returns-2 c =
     let w = c .before .before .before .before in
-    let l = w .before in
+    let l = w .before .before in
     let s = l .before .before .before .before in
     sym (l .before .loop .inv .1 ∙ flow-refused _ _ _ _ (la s) (lp s) (l .before .loop .sum) (l .before .loop .i) (l .loop-test .taken) (task-is w) (piece-is _ _ _ _ _ (add-one _) (l .loop-test .taken)) (c .before .before .path-finish .ensures) _ (c .enum-told2 .given .1))
 
 add-i : tie.Need-add-i Inv-loop μ-loop
 add-i c =
-    let s = c .before .before .before .before .before .before .before .before .before .before in
+    let s = c .before .before .before .before .before .before .before .before .before .before .before in
     omega (arith, few s)
 
 loop-less : tie.Need-loop-less Inv-loop μ-loop
-loop-less c = omega (arith, c .before .before .before .before .before .before .loop-test .taken)
+loop-less c = omega (arith, c .before .before .before .before .before .before .before .loop-test .taken)
 
 loop-again : tie.Need-loop-again Inv-loop μ-loop
 loop-again c =
     let w = c .before .before .before .before .before in
-    let l = w .before in
+    let l = w .before .before in
     let s = l .before .before .before .before in (
       omega (arith, l .before .loop .inv .0, path-small _ _ _ _ (c .before .t .given .0 .0) (c .before .before .before .path-finish .ensures) (c .before .t .given .1), accepted-horizon _ (s .pre .0)),
       l .before .loop .inv .1 ∙ flow-next _ _ _ _ (la s) (lp s) (l .before .loop .sum) (l .before .loop .i) (l .loop-test .taken) (task-is w) (piece-is _ _ _ _ _ (add-one _) (l .loop-test .taken)) (c .before .before .before .path-finish .ensures) _ (c .before .t .given .1),
@@ -151,8 +151,7 @@ flowtime-spec =
     μ-loop
     add-n
     loop-holds
-    array-read-wide
-    wide-requires
+    task-of-requires
     mul-path-finish
     mul-path-finish-2
     add-path-finish

@@ -22,24 +22,23 @@ long c = omega (arith, good-length (eInt w8) 12 (c .args .t1) _ (c .good .0))
 loop-holds : tie.Need-loop-holds Inv-loop μ-loop
 loop-holds c = assigns-start _ _ (long c)
 
-array-read-wide : tie.Need-array-read-wide Inv-loop μ-loop
-array-read-wide c = omega arith
-
-wide-requires : tie.Need-wide-requires Inv-loop μ-loop
-wide-requires c κs = tt
+task-of-requires : tie.Need-task-of-requires Inv-loop μ-loop
+task-of-requires c κs = omega arith
 
 returns : tie.Need-returns Inv-loop μ-loop
 returns c =
-    let l = c .before .before in
-    sym (l .before .loop .inv ∙ assigns-large _ _ (long (l .before .before)) _ (l .loop-test .taken) (omega (arith, c .before .wide .ensures .0)))
+    let w = c .before .before in
+    let l = w .before .before in
+    sym (l .before .loop .inv ∙ assigns-large _ _ (long (l .before .before)) _ (l .loop-test .taken) (omega (arith, w .task-of .ensures .0)))
 
 again-requires : tie.Need-again-requires Inv-loop μ-loop
 again-requires c κs = omega arith
 
 returns-2 : tie.Need-returns-2 Inv-loop μ-loop
 returns-2 c =
-    let l = c .before .before .before .before in
-    sym (l .before .loop .inv ∙ assigns-again _ _ (long (l .before .before)) _ (l .loop-test .taken) (omega (arith, c .before .before .before .wide .ensures .0)) (sym (c .before .again .ensures) ∙ c .if2 .taken))
+    let w = c .before .before .before .before in
+    let l = w .before .before in
+    sym (l .before .loop .inv ∙ assigns-again _ _ (long (l .before .before)) _ (l .loop-test .taken) (omega (arith, w .task-of .ensures .0)) (sym (c .before .again .ensures) ∙ c .if2 .taken))
 
 add-i : tie.Need-add-i Inv-loop μ-loop
 add-i c = omega arith
@@ -49,8 +48,9 @@ loop-less c = omega arith
 
 loop-again : tie.Need-loop-again Inv-loop μ-loop
 loop-again c =
-    let l = c .before .before .before .before in
-    l .before .loop .inv ∙ assigns-next _ _ (long (l .before .before)) _ (l .loop-test .taken) (omega (arith, c .before .before .before .wide .ensures .0)) (sym (c .before .again .ensures) ∙ c .if2 .left)
+    let w = c .before .before .before .before in
+    let l = w .before .before in
+    l .before .loop .inv ∙ assigns-next _ _ (long (l .before .before)) _ (l .loop-test .taken) (omega (arith, w .task-of .ensures .0)) (sym (c .before .again .ensures) ∙ c .if2 .left)
 
 returns-3 : tie.Need-returns-3 Inv-loop μ-loop
 returns-3 c =
@@ -63,8 +63,7 @@ assigns-spec =
     Inv-loop
     μ-loop
     loop-holds
-    array-read-wide
-    wide-requires
+    task-of-requires
     returns
     again-requires
     returns-2
