@@ -11,6 +11,7 @@ use Rattle.deck.specs.Calls.{searchCause, searchFound, searchWritten, searchAns
 use Rattle.deck.specs.Numbers.{searchNumbers}
 use Rattle.deck.proofs.Told.{search-answered}
 use Rattle.deck.specs.Listing.{listingFor, listing}
+use Rattle.round_text.specs.LentWords.{LentWords}
 use Rattle.deck.specs.declared.SearchKind.{SearchKind}
 use Rattle.deck.specs.declared.SearchKind.the-variants.{Plan, NoPlan, Spent, Refused}
 use Rattle.deck.specs.declared.SearchAnswer.{SearchAnswer}
@@ -60,3 +61,11 @@ call-listed s work out answer work′ out′ t w o call listed =
     let same : Listable s (answer .kind) × (listingFor (read s) (answer .kind) answer out′ ≡ listing s) =
     rw (answered ∙ ap₂ (searchAnswer s) w o, call .written ∙ ap (λ n. searchOutput s n out) w) (answer-same s out o) in
     listed (same .0) ∙ same .1
+
+-- and the lent words are as it leaves them
+pub call-lent : (s work out numbers work′ out′ : List ℕ) → length work ≡ 16384 → length out ≡ 3072 → SearchCall s work out numbers work′ out′ → LentWords s work out work′ out′
+call-lent s work out numbers work′ out′ w o call =
+    record {
+      written = call .written ∙ ap (λ n. searchOutput s n out) w;
+      refused-work = λ n. call .refused-work (λ e. n (rw (w, o) at e));
+    }

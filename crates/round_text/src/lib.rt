@@ -9,6 +9,7 @@ ghost use Rattle.deck.specs.Calls.{SearchCall};
 ghost use Rattle.deck.specs.Numbers.{searchNumbers};
 ghost use Rattle.deck.specs.Listing.{listing};
 ghost use Rattle.round_text.specs.Longest.{longest};
+ghost use Rattle.round_text.specs.LentWords.{LentWords};
 
 // "It lends 16384 words of workspace and 3072 of output".
 fn answer(s: &[u8], work: &mut [u32], out: &mut [u16]) -> SearchAnswer
@@ -19,7 +20,8 @@ fn answer(s: &[u8], work: &mut [u32], out: &mut [u16]) -> SearchAnswer
 }
 
 // THE TEXT of any sheet, whatever the lent words held: the first r bytes are its listing, whole; the others stay. The text of a
-// sheet longer than any accepted one is that of every sheet that begins with it, so that a reader may stop there.
+// sheet longer than any accepted one is that of every sheet that begins with it, so that a reader may stop there. Workspace and output
+// are as the search leaves them.
 pub fn write(
     s: &[u8],
     work: &mut [u32; 16384],
@@ -30,6 +32,7 @@ pub fn write(
     ensures inside { λ r. ⌜ (r ≤ length (now (text .exit))) × (r ≡ length (take r (now (text .exit)))) ⌝ }
     ensures others { λ r. ⌜ drop r (now (text .exit)) ≡ drop r (now (text .entry)) ⌝ }
     ensures long { λ r. ⌜ (longest < length (now (s .entry)) → (rest : List ℕ) → take r (now (text .exit)) ≡ listing (now (s .entry) ++ rest)) ⌝ }
+    ensures lent { λ _. ⌜ LentWords (now (s .entry)) (now (work .entry)) (now (out .entry)) (now (work .exit)) (now (out .exit)) ⌝ }
 {
     let a = answer(s, work, out);
     listing::list(s, a, out, text)
