@@ -3,11 +3,8 @@
 mod common;
 
 use common::{deckplan, file};
-use deckref::gen::{self, KINDS};
-use deckref::program::deckround;
-
-/// More words than any sheet asks for.
-const PLENTY: usize = 4_460_544;
+use other::program::deckround;
+use other::{generated, kinds, PLENTY, RULES};
 
 /// Elements of HTML without an end.
 const EMPTY: [&str; 3] = ["meta", "input", "!DOCTYPE"];
@@ -46,12 +43,12 @@ fn complete(name: &str, text: &str) {
 
 #[test]
 fn pages_and_pictures_of_all_kinds() {
-    for kind in KINDS {
+    for kind in kinds() {
         let seeds = if matches!(kind, "max" | "full") { 1 } else { 6 };
         for seed in 0..seeds {
             let name = format!("{kind} {seed}");
-            let bytes = gen::sheet(kind, seed).expect("a kind of the generator");
-            let listing = deckround(&bytes, PLENTY);
+            let bytes = generated(kind, seed);
+            let listing = deckround(RULES, &bytes, PLENTY);
             let words: Vec<&str> = listing.split_whitespace().collect();
             let (heading, status) = match words[0] {
                 "plan" => (format!("Plan of flowtime {}", words[1]), 0),

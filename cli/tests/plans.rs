@@ -3,20 +3,18 @@
 mod common;
 
 use common::{deckplan, file};
-use deckref::gen::{self, Rng, KINDS};
-use deckref::program::deckround;
-
-/// More words than any sheet asks for.
-const PLENTY: usize = 4_460_544;
+use other::gen::Rng;
+use other::program::deckround;
+use other::{generated, kinds, PLENTY, RULES};
 
 #[test]
 fn listings_json_and_checks_of_all_kinds() {
-    for kind in KINDS {
+    for kind in kinds() {
         let seeds = if matches!(kind, "max" | "full") { 1 } else { 12 };
         for seed in 0..seeds {
             let name = format!("{kind} {seed}");
-            let bytes = gen::sheet(kind, seed).expect("a kind of the generator");
-            let expected = deckround(&bytes, PLENTY);
+            let bytes = generated(kind, seed);
+            let expected = deckround(RULES, &bytes, PLENTY);
             let ran = deckplan(&["plan", "--as-sheet"], &bytes);
             assert_eq!(ran.printed(), expected, "{name}");
             let kinds = ["plan", "none", "spent", "refused"];

@@ -3,8 +3,9 @@
 mod common;
 
 use common::{deckplan, Ran};
-use deckref::gen::{self, KINDS};
-use deckref::sheet::read_sheet;
+use other::gen::Rng;
+use other::sheet::read_sheet;
+use other::{generated, kinds, RULES};
 
 /// Round 6 of document 01.
 const ROUND: &str = "horizon 3\nnodes 18\n\nfloor\nAB\n..\n\ntask a: B A\ntask b: A B\n";
@@ -15,12 +16,12 @@ fn sheet_of(text: &str) -> Ran {
 
 #[test]
 fn sheets_of_all_kinds_there_and_back() {
-    for kind in KINDS {
+    for kind in kinds() {
         let seeds = if matches!(kind, "max" | "full" | "medium") { 10 } else { 40 };
         for seed in 0..seeds {
-            let sheet = gen::sheet(kind, seed).expect("a kind of the generator");
+            let sheet = generated(kind, seed);
             let text = deckplan(&["text", "--as-sheet"], &sheet);
-            if let Err(cause) = read_sheet(&sheet) {
+            if let Err(cause) = read_sheet(RULES, &sheet) {
                 assert_eq!((text.status, text.out.as_slice()), (3, &b""[..]), "{kind} {seed}");
                 let said = format!("refused, cause {}:", cause.number());
                 assert!(text.error.contains(&said), "{kind} {seed}: {}", text.error);
@@ -163,7 +164,7 @@ fn example_sheets_are_those_of_their_texts() {
 
 #[test]
 fn no_text_panics() {
-    let mut rng = gen::Rng::new(20);
+    let mut rng = Rng::new(20);
     let pieces = [
         "floor\n",
         "horizon ",

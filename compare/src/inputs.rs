@@ -1,10 +1,8 @@
 //! Inputs that the comparison and the timing share: sheets by size, records, tables, words.
 
-use deckref::gen::{Draft, Rng};
-use deckref::sheet::{read_sheet, Carrier, Sheet};
-
-/// The most words of workspace that any sheet asks for.
-pub const PLENTY: usize = 4_460_544;
+use other::gen::{Draft, Rng};
+use other::sheet::{read_sheet, Carrier, Sheet};
+use other::RULES;
 
 /// How the sheets of a map are drawn.
 pub struct Map {
@@ -41,8 +39,9 @@ impl Map {
                 grid,
                 starts,
                 tasks,
+                ..Draft::default()
             };
-            return draft.bytes();
+            return draft.bytes_under(RULES);
         }
     }
 
@@ -91,7 +90,7 @@ pub fn any(limit: usize, rng: &mut Rng) -> Vec<u8> {
         .into_iter()
         .map(|last| (1..rng.range(1, goals)).map(|_| rng.pick(&free)).chain([last]).collect())
         .collect();
-    Draft { w, h, horizon, limit, grid, starts, tasks }.bytes()
+    Draft { w, h, horizon, limit, grid, starts, tasks, ..Draft::default() }.bytes_under(RULES)
 }
 
 /// A sheet without a plan: two carriers in a stretch of two places cannot pass each other. All others are free, so that there are
@@ -105,7 +104,8 @@ pub fn stuck(side: usize, horizon: usize, rng: &mut Rng) -> Vec<u8> {
     let starts = [0, 1].into_iter().chain(rng.sample(&free, 10)).collect();
     let last = rng.sample(&free, 10).into_iter().map(|place| vec![place]);
     let tasks = [vec![1, 0], vec![0, 1]].into_iter().chain(last).collect();
-    Draft { w: side, h: side, horizon, limit: 4096, grid, starts, tasks }.bytes()
+    Draft { w: side, h: side, horizon, limit: 4096, grid, starts, tasks, ..Draft::default() }
+        .bytes_under(RULES)
 }
 
 /// A sheet whose search makes roots alone: two carriers in a stretch of two places must change places at every step, so that no
@@ -121,7 +121,8 @@ pub fn roots_alone() -> Vec<u8> {
     let to_and_fro = |first: usize| (first..first + 8).map(|goal| goal % 2).collect();
     let tasks =
         [to_and_fro(1), to_and_fro(0)].into_iter().chain(apart.iter().map(|&place| vec![place])).collect();
-    Draft { w: side, h: side, horizon: 7, limit: 4096, grid, starts, tasks }.bytes()
+    let (w, h, limit) = (side, side, 4096);
+    Draft { w, h, horizon: 7, limit, grid, starts, tasks, ..Draft::default() }.bytes_under(RULES)
 }
 
 /// A sheet with another node limit.
@@ -176,7 +177,7 @@ pub fn records_against(
     follow: usize,
     rng: &mut Rng,
 ) -> Vec<u16> {
-    let sheet = read_sheet(bytes).expect("an accepted sheet");
+    let sheet = read_sheet(RULES, bytes).expect("an accepted sheet");
     let mut work = vec![0; sheet.workspace_words()];
     let mut path = vec![0; sheet.horizon + 1];
     let mut records: Vec<u16> = Vec::new();

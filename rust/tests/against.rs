@@ -1,12 +1,12 @@
 //! The wrapper beside the direct calls and beside the other author's planner, on every kind of generated sheet.
 
 use carrier_planner::{calls, *};
-use deckref::gen::{self, Rng, KINDS};
-use deckref::{check, collide, path, program, search, sheet};
+use other::gen::Rng;
+use other::{check, collide, generated, kinds, path, program, search, sheet, RULES};
 
 /// Sheets of every kind; few of those that take long.
 fn sheets() -> impl Iterator<Item = (String, Vec<u8>)> {
-    KINDS.into_iter().flat_map(|kind| {
+    kinds().flat_map(|kind| {
         let seeds = match kind {
             "max" => 2,
             "full" => 4,
@@ -14,9 +14,7 @@ fn sheets() -> impl Iterator<Item = (String, Vec<u8>)> {
             "damaged" => 3000,
             _ => 120,
         };
-        (0..seeds).map(move |seed| {
-            (format!("{kind} {seed}"), gen::sheet(kind, seed).expect("a kind of the generator"))
-        })
+        (0..seeds).map(move |seed| (format!("{kind} {seed}"), generated(kind, seed)))
     })
 }
 
@@ -24,7 +22,7 @@ fn sheets() -> impl Iterator<Item = (String, Vec<u8>)> {
 fn sheets_and_causes() {
     let mut refused = 0;
     for (name, bytes) in sheets() {
-        let other = sheet::read_sheet(&bytes);
+        let other = sheet::read_sheet(RULES, &bytes);
         match (Sheet::new(bytes.as_slice()), other) {
             (Ok(ours), Ok(other)) => {
                 let header = (ours.width(), ours.height(), ours.m(), ours.horizon(), ours.node_limit());
@@ -44,7 +42,7 @@ fn sheets_and_causes() {
                     let expected =
                         if number < other.m { other.goals(sheet::Task(number)) } else { Vec::new() };
                     assert_eq!(goals.collect::<Vec<_>>(), expected, "{name}");
-                    let stretch = sheet::task_goals(&bytes, sheet::Task(number));
+                    let stretch = sheet::task_goals(RULES, &bytes, sheet::Task(number));
                     assert_eq!(ours.goal_bytes(Task(number)).unwrap_or_default(), stretch, "{name}");
                 }
             }
@@ -96,9 +94,9 @@ fn searches() {
             }
         }
         let mut reference = vec![0; sheet.output()];
-        let other = search::search(&bytes, &mut work, &mut reference);
+        let other = search::search(RULES, &bytes, &mut work, &mut reference);
         assert_eq!(other.nodes, answer.nodes(), "{name}");
-        assert_eq!(program::deckround(&bytes, sheet.workspace()), answer.to_string(), "{name}");
+        assert_eq!(program::deckround(RULES, &bytes, sheet.workspace()), answer.to_string(), "{name}");
     }
     assert!(plans > 500 && nones > 100 && spents > 50, "{plans} plans, {nones} none, {spents} spent");
 }
@@ -108,7 +106,7 @@ fn least_paths() {
     let mut planner = Planner::new();
     let mut rng = Rng::new(1);
     for (name, bytes) in sheets() {
-        let (Ok(sheet), Ok(other)) = (Sheet::new(bytes.as_slice()), sheet::read_sheet(&bytes)) else {
+        let (Ok(sheet), Ok(other)) = (Sheet::new(bytes.as_slice()), sheet::read_sheet(RULES, &bytes)) else {
             continue;
         };
         let mut constraints = Vec::new();
@@ -118,6 +116,7 @@ fn least_paths() {
             let records: Vec<u16> = constraints.iter().flat_map(Constraint::record).collect();
             let (mut work, mut out) = (vec![0; other.workspace_words()], vec![0; sheet.horizon() + 1]);
             let expected = path::least_path(
+                RULES,
                 &bytes,
                 sheet::Carrier(carrier),
                 sheet::Task(task),
@@ -174,7 +173,7 @@ fn checks_of_changed_plans() {
                 *entry = task.0 as u8;
             }
             let words: Vec<u16> = paths.iter().flatten().map(|place| place.0).collect();
-            let other = check::check_plan(&bytes, &list, &words);
+            let other = check::check_plan(RULES, &bytes, &list, &words);
             let direct = calls::check_plan(&bytes, &list, &words);
             match sheet.check(&tasks, &paths) {
                 Ok(plan) => {
@@ -231,7 +230,7 @@ fn assignments() {
         let most = rng.pick(&[1, 3, 100, 65534]);
         let table: Vec<u16> =
             (0..length).map(|_| if rng.chance(1, 5) { BARRED } else { rng.range(0, most) as u16 }).collect();
-        let other = deckref::assign::least_assignment(m as u8, &table);
+        let other = other::assign::least_assignment(m as u8, &table);
         match least_assignment(m as u8, &table) {
             Ok(Some(one)) => {
                 found += 1;
@@ -247,10 +246,10 @@ fn assignments() {
                     }
                 }
             }
-            Ok(None) => assert_eq!(other.kind, deckref::assign::AssignmentKind::None, "case {case}"),
+            Ok(None) => assert_eq!(other.kind, other::assign::AssignmentKind::None, "case {case}"),
             Err(cause) => {
                 assert_eq!(cause, Cause::Count, "case {case}");
-                assert_eq!(other.kind, deckref::assign::AssignmentKind::Refused(sheet::Cause::Count));
+                assert_eq!(other.kind, other::assign::AssignmentKind::Refused(sheet::Cause::Count));
             }
         }
     }

@@ -4,11 +4,8 @@ use std::io::Write;
 use std::path::{Path, PathBuf};
 use std::process::{Command, Stdio};
 
-use deckref::gen::{self, KINDS};
-use deckref::program::deckround;
-
-/// More words than any sheet asks for.
-const PLENTY: usize = 4_460_544;
+use other::program::deckround;
+use other::{generated, kinds, PLENTY, RULES};
 
 fn top() -> PathBuf {
     Path::new(env!("CARGO_MANIFEST_DIR")).join("..")
@@ -42,11 +39,11 @@ fn run(program: &Path, sheet: &[u8]) -> (Option<i32>, String) {
 fn prints_the_listing() {
     let program = Path::new(env!("CARGO_TARGET_TMPDIR")).join("round");
     compile(&program);
-    for kind in KINDS {
+    for kind in kinds() {
         let seeds = if matches!(kind, "max" | "full") { 1 } else { 15 };
         for seed in 0..seeds {
-            let sheet = gen::sheet(kind, seed).expect("a kind of the generator");
-            let expected = deckround(&sheet, PLENTY);
+            let sheet = generated(kind, seed);
+            let expected = deckround(RULES, &sheet, PLENTY);
             let status =
                 ["plan", "none", "spent", "refused"].iter().position(|kind| expected.starts_with(kind));
             let (code, printed) = run(&program, &sheet);

@@ -1,7 +1,8 @@
 //! No input panics, and a declined call leaves what is lent as it was.
 
 use carrier_planner::{calls, *};
-use deckref::gen::{self, Rng};
+use other::gen::Rng;
+use other::generated;
 
 #[test]
 fn any_bytes() {
@@ -68,7 +69,7 @@ fn builders_of_anything() {
 #[test]
 fn short_workspaces() {
     for seed in 0..200 {
-        let sheet = Sheet::new(gen::sheet("small", seed).expect("a kind")).expect("accepted");
+        let sheet = Sheet::new(generated("small", seed)).expect("accepted");
         let answer = Planner::new().search(&sheet).expect("accepted");
         for words in [0, 1, sheet.workspace() - 1] {
             let mut lent = vec![77; words];

@@ -2,11 +2,10 @@
 
 use std::hint::black_box;
 
-use compare::inputs::{records_against, table, Map, PLENTY};
-use deckref::assign;
-use deckref::gen::{self, Rng};
-use deckref::path;
-use deckref::sheet::{read_sheet, Carrier, Task};
+use compare::inputs::{records_against, table, Map};
+use other::gen::Rng;
+use other::sheet::{read_sheet, Carrier, Task};
+use other::{assign, path, plain, PLENTY, RULES};
 
 use crate::Case;
 
@@ -52,7 +51,7 @@ fn paths(map: Map, records: usize) -> Case {
         let sheet = map.sheet(&mut rng);
         let (carrier, task) = (rng.range(0, map.carriers - 1), rng.range(0, map.carriers - 1));
         let records = records_against(&sheet, carrier, task, records, 5, &mut rng);
-        let read = read_sheet(&sheet).expect("an accepted sheet");
+        let read = read_sheet(RULES, &sheet).expect("an accepted sheet");
         (words, places) = (read.workspace_words(), read.horizon + 1);
         let (mut work, mut out) = (vec![0; words], vec![0; places]);
         if compare::least_path(&sheet, carrier, task, &mut work, &mut out, &records)[1] == 1 {
@@ -73,7 +72,15 @@ fn paths(map: Map, records: usize) -> Case {
         theirs: Box::new(move |k| {
             let Input { sheet, carrier, task, records } = &same[k];
             let (carrier, task) = (Carrier(*carrier), Task(*task));
-            black_box(path::least_path(sheet, carrier, task, &mut other_work, &mut other_out, records));
+            black_box(path::least_path(
+                RULES,
+                sheet,
+                carrier,
+                task,
+                &mut other_work,
+                &mut other_out,
+                records,
+            ));
         }),
     }
 }
@@ -116,7 +123,7 @@ fn in_order(most: usize) -> Case {
 /// Whole searches: the other author's kinds of sheet, and the maps of the literature.
 fn searches() -> Vec<Named> {
     let kinds = [("medium", 24), ("full", 12), ("max", 8)].into_iter().map(|(kind, count)| {
-        let sheets = move || (0..count).map(|seed| gen::sheet(kind, seed).expect("a known kind")).collect();
+        let sheets = move || (0..count).map(|seed| plain(kind, seed)).collect();
         named(&format!("search {kind}"), move || whole(sheets()))
     });
     let maps = [("20x20 30%", 20, 30, 100), ("32x32 10%", 32, 10, 160), ("32x32", 32, 0, 160)];
@@ -144,7 +151,7 @@ fn whole(sheets: Vec<Vec<u8>>) -> Case {
             black_box(compare::search(&sheets[k], &mut work, &mut out));
         }),
         theirs: Box::new(move |k| {
-            black_box(deckref::search::search(&same[k], &mut other_work, &mut other_out));
+            black_box(other::search::search(RULES, &same[k], &mut other_work, &mut other_out));
         }),
     }
 }

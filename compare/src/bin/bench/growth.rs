@@ -1,7 +1,8 @@
 //! What a node costs as the number of nodes grows: sheets whose search is spent at 4096 nodes, searched under smaller limits.
 
-use compare::inputs::{roots_alone, stuck, with_limit, Map, PLENTY};
-use deckref::gen::{self, Rng};
+use compare::inputs::{roots_alone, stuck, with_limit, Map};
+use other::gen::Rng;
+use other::{plain, PLENTY, RULES};
 
 use crate::{clock, median};
 
@@ -22,7 +23,7 @@ pub fn print() {
     of("20x20 K 1, two carriers stuck", [stuck(20, 60, &mut Rng::new(5))].into_iter());
     of("14x14 K 8, roots alone", [roots_alone()].into_iter());
     for kind in ["full", "max"] {
-        of(kind, (0..60).map(|seed| gen::sheet(kind, seed).expect("a known kind")));
+        of(kind, (0..60).map(|seed| plain(kind, seed)));
     }
 }
 
@@ -40,7 +41,7 @@ fn of(name: &str, sheets: impl Iterator<Item = Vec<u8>>) {
             let begun = clock::now();
             compare::search(&sheet, &mut work, &mut out);
             let between = clock::now();
-            let _ = deckref::search::search(&sheet, &mut work, &mut out);
+            let _ = other::search::search(RULES, &sheet, &mut work, &mut out);
             ours.push((between - begun).as_secs_f64());
             theirs.push((clock::now() - between).as_secs_f64());
         }

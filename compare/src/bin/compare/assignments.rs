@@ -2,9 +2,10 @@
 //! assignments in order of the same tables.
 
 use compare::inputs::{junk, table};
+use compare::theirs::assignment_numbers;
 use compare::{assignments_in_order, least_assignment, AssignmentNumbers};
-use deckref::assign::{self, AssignmentKind, BARRED};
-use deckref::gen::Rng;
+use other::assign::{self, BARRED};
+use other::gen::Rng;
 
 use crate::{kind_of, Share, Tally};
 
@@ -62,11 +63,7 @@ fn in_order(tally: &mut Tally, m: u8, entries: &[u16], seed: u64, rng: &mut Rng)
 fn one(tally: &mut Tally, m: u8, entries: &[u16], seed: u64) {
     let ours = least_assignment(m, entries);
     let theirs = assign::least_assignment(m, entries);
-    let numbers = match theirs.kind {
-        AssignmentKind::Found => [0, 1, theirs.sum],
-        AssignmentKind::None => [0, 0, 0],
-        AssignmentKind::Refused(cause) => [u32::from(cause.number()), 0, 0],
-    };
+    let numbers = assignment_numbers(&theirs);
     let ok = ours.numbers == numbers && ours.tasks == theirs.tasks && priced(usize::from(m), entries, &ours);
     tally.count(ok, kind_of(&ours.numbers, "found", "none"), || {
         format!("table {seed}, m {m}: {ours:?} for {theirs:?}")

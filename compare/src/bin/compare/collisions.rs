@@ -1,8 +1,9 @@
 //! First collisions: walks that cross, words of few and of all values, and wrong counts and lengths.
 
 use compare::first_collision;
-use deckref::collide::{self, CollisionKind};
-use deckref::gen::Rng;
+use compare::theirs::collision_numbers;
+use other::collide;
+use other::gen::Rng;
 
 use crate::{kind_of, Share, Tally};
 
@@ -76,17 +77,7 @@ fn walks(m: usize, h: usize, rng: &mut Rng) -> Vec<u16> {
 
 fn one(tally: &mut Tally, m: u8, h: u8, paths: &[u16], seed: u64) {
     let ours = first_collision(m, h, paths);
-    let theirs = collide::first_collision(m, h, paths);
-    let values = |kind: u32| {
-        let [t, i, j, u, v] = [theirs.t, theirs.i, theirs.j, theirs.u, theirs.v].map(u32::from);
-        [0, 1, kind, t, i, j, u, v]
-    };
-    let numbers = match theirs.kind {
-        CollisionKind::None => [0; 8],
-        CollisionKind::Place => values(0),
-        CollisionKind::Move => values(1),
-        CollisionKind::Refused(cause) => [u32::from(cause.number()), 0, 0, 0, 0, 0, 0, 0],
-    };
+    let numbers = collision_numbers(&collide::first_collision(m, h, paths));
     let kind = if ours[..3] == [0, 1, 1] { "move".to_string() } else { kind_of(&ours, "place", "none") };
     tally.count(ours == numbers, kind, || format!("paths {seed}, m {m} h {h}: {ours:?} for {numbers:?}"));
 }

@@ -1,11 +1,13 @@
 //! One carrier's least path: under no records, random ones, ones along the path, many, and bad ones; with a workspace and an output
 //! that hold anything, and with buffers one word short.
 
-use compare::inputs::{junk, record, PLENTY};
+use compare::inputs::{junk, record};
 use compare::least_path;
-use deckref::gen::{self, Rng};
-use deckref::path::{self, PathKind};
-use deckref::sheet::{read_sheet, Carrier, Sheet, Task};
+use compare::theirs::path_numbers;
+use other::gen::Rng;
+use other::path::{self, PathKind};
+use other::sheet::{read_sheet, Carrier, Sheet, Task};
+use other::{generated, kinds, PLENTY, RULES};
 
 use crate::{kind_of, Share, Tally};
 
@@ -23,12 +25,12 @@ pub fn run(share: &Share) -> Tally {
     let mut lent = Lent { work: vec![0; PLENTY + 2 * PAST], out: Vec::new() };
     junk(&mut lent.work, &mut rng);
     for seed in share.seeds(800) {
-        for kind in gen::KINDS {
+        for kind in kinds() {
             let large = matches!(kind, "full" | "max");
             if large && seed >= 60 || kind == "medium" && seed >= 150 {
                 continue;
             }
-            let bytes = gen::sheet(kind, seed).expect("a known kind");
+            let bytes = generated(kind, seed);
             let mut rng = Rng::new(1000 + seed);
             sheet_cases(&mut tally, &mut lent, &bytes, large, &mut rng, || format!("{kind} {seed}"));
         }
@@ -44,7 +46,7 @@ fn sheet_cases(
     rng: &mut Rng,
     name: impl Fn() -> String,
 ) {
-    let Ok(sheet) = read_sheet(bytes) else {
+    let Ok(sheet) = read_sheet(RULES, bytes) else {
         one(tally, lent, bytes, 0, 0, 100_000, 300, &[], true, &name);
         return;
     };
@@ -82,7 +84,7 @@ fn sheet_cases(
 fn good_records(bytes: &[u8], sheet: &Sheet, carrier: usize, task: usize, rng: &mut Rng) -> Vec<u16> {
     let mut path = vec![0; sheet.horizon + 1];
     let mut work = vec![0; sheet.workspace_words()];
-    let found = path::least_path(bytes, Carrier(carrier), Task(task), &mut work, &mut path, &[]);
+    let found = path::least_path(RULES, bytes, Carrier(carrier), Task(task), &mut work, &mut path, &[]);
     let along = (found.kind == PathKind::Found).then_some(&path[..]);
     let count = match rng.range(0, 19) {
         0 => 4096,
@@ -142,6 +144,7 @@ fn one(
     let before = watch.then(|| lent.work[..words + PAST].to_vec());
     let guard: [u32; PAST] = std::array::from_fn(|k| lent.work[words + k]);
     let answer = path::least_path(
+        RULES,
         bytes,
         Carrier(carrier),
         Task(task),
@@ -149,11 +152,7 @@ fn one(
         &mut expected[..places],
         records,
     );
-    let numbers = match answer.kind {
-        PathKind::Found => [0, 1, u32::from(answer.finish)],
-        PathKind::None => [0, 0, 0],
-        PathKind::Refused(cause) => [u32::from(cause.number()), 0, 0],
-    };
+    let numbers = path_numbers(&answer);
     let ours = least_path(bytes, carrier, task, &mut lent.work[..words], &mut lent.out[..places], records);
     let stays = ours[0] == 0 || before.is_none_or(|before| before[..] == lent.work[..words + PAST]);
     let past = lent.work[words..words + PAST] == guard;

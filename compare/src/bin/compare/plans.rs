@@ -3,27 +3,29 @@
 
 use compare::check_plan;
 use compare::inputs::{walk, with_limit};
-use deckref::check::{self, CheckKind};
-use deckref::gen::{self, Rng};
-use deckref::path::PathFinder;
-use deckref::search::{search, SearchKind};
-use deckref::sheet::{read_sheet, Carrier, Sheet, Task};
+use compare::theirs::check_numbers;
+use other::check;
+use other::gen::Rng;
+use other::path::PathFinder;
+use other::search::{search, SearchKind};
+use other::sheet::{read_sheet, Carrier, Sheet, Task};
+use other::{generated, kinds, RULES};
 
 use crate::{kind_of, Share, Tally};
 
 pub fn run(share: &Share) -> Tally {
     let mut tally = Tally::default();
     for seed in share.seeds(250) {
-        for kind in gen::KINDS {
+        for kind in kinds() {
             let large = matches!(kind, "medium" | "full" | "max");
             if large && seed >= 12 {
                 continue;
             }
-            let bytes = gen::sheet(kind, seed).expect("a known kind");
+            let bytes = generated(kind, seed);
             let bytes = if large { with_limit(&bytes, 40) } else { bytes };
             let mut rng = Rng::new(7000 + seed);
             let name = || format!("{kind} {seed}");
-            let Ok(sheet) = read_sheet(&bytes) else {
+            let Ok(sheet) = read_sheet(RULES, &bytes) else {
                 one(&mut tally, &bytes, &[255; 12], &[0; 30], &name);
                 continue;
             };
@@ -42,7 +44,7 @@ pub fn run(share: &Share) -> Tally {
 fn planned(bytes: &[u8], sheet: &Sheet) -> Option<([u8; 12], Vec<u16>)> {
     let mut work = vec![0; sheet.workspace_words()];
     let mut out = vec![0; sheet.m * (sheet.horizon + 1)];
-    let answer = search(bytes, &mut work, &mut out);
+    let answer = search(RULES, bytes, &mut work, &mut out);
     (answer.kind == SearchKind::Plan).then_some((answer.tasks, out))
 }
 
@@ -99,12 +101,7 @@ fn variants(
 
 fn one(tally: &mut Tally, bytes: &[u8], tasks: &[u8; 12], paths: &[u16], name: &impl Fn() -> String) {
     let ours = check_plan(bytes, tasks, paths);
-    let theirs = check::check_plan(bytes, tasks, paths);
-    let numbers = match theirs.kind {
-        CheckKind::Yes => [0, 1, theirs.flowtime],
-        CheckKind::No => [0, 0, 0],
-        CheckKind::Refused(cause) => [u32::from(cause.number()), 0, 0],
-    };
+    let numbers = check_numbers(&check::check_plan(RULES, bytes, tasks, paths));
     tally.count(ours == numbers, kind_of(&ours, "yes", "no"), || {
         format!("{}: {ours:?} for {numbers:?}", name())
     });

@@ -1,12 +1,12 @@
 //! Whole searches: every kind of sheet, several node limits, a workspace that holds anything, buffers that are exact, larger and
 //! one word short; and on tiny sheets the least flowtime of any plan, by another method.
 
-use compare::inputs::{any, junk, roots_alone, stuck, with_limit, Map, PLENTY};
+use compare::inputs::{any, junk, roots_alone, stuck, with_limit, Map};
 use compare::search;
-use deckref::gen::{self, Rng};
-use deckref::naive;
-use deckref::search::{self as other, SearchKind};
-use deckref::sheet::read_sheet;
+use compare::theirs::search_numbers;
+use other::gen::Rng;
+use other::sheet::read_sheet;
+use other::{generated, kinds, naive, PLENTY, RULES};
 
 use crate::{Share, Tally};
 
@@ -27,7 +27,7 @@ pub fn run(share: &Share) -> Tally {
     let mut lent = Lent { work: vec![0; PLENTY + PAST], out: Vec::new() };
     junk(&mut lent.work, &mut rng);
     for seed in share.seeds(1500) {
-        for kind in gen::KINDS {
+        for kind in kinds() {
             let most = match kind {
                 "max" => 6,
                 "full" => 24,
@@ -37,7 +37,7 @@ pub fn run(share: &Share) -> Tally {
             if seed >= most {
                 continue;
             }
-            let bytes = gen::sheet(kind, seed).expect("a known kind");
+            let bytes = generated(kind, seed);
             let name = |limit: u16| format!("{kind} {seed}, limit {limit}");
             let own = bytes.get(4..6).map_or(0, |two| u16::from_le_bytes([two[0], two[1]]));
             one(&mut tally, &mut lent, &bytes, 0, 0, &|| name(own));
@@ -82,22 +82,6 @@ pub fn run(share: &Share) -> Tally {
     tally
 }
 
-/// The numbers of the other planner's answer.
-fn numbers_of(answer: &other::SearchAnswer) -> [u32; 17] {
-    let (cause, kind) = match answer.kind {
-        SearchKind::Plan => (0, 0),
-        SearchKind::None => (0, 1),
-        SearchKind::Spent => (0, 2),
-        SearchKind::Refused(cause) => (u32::from(cause.number()), 3),
-    };
-    let mut numbers =
-        [cause, kind, answer.flowtime, answer.nodes, answer.bound, 0, 0, 0, 0, 0, 0, 0, 0, 0, 0, 0, 0];
-    for (number, task) in numbers[5..].iter_mut().zip(answer.tasks) {
-        *number = u32::from(task);
-    }
-    numbers
-}
-
 /// Both with buffers that are `more` words longer than asked for.
 fn one(
     tally: &mut Tally,
@@ -107,14 +91,14 @@ fn one(
     more_out: usize,
     name: &dyn Fn() -> String,
 ) -> [u32; 17] {
-    let (words, places) = read_sheet(bytes)
+    let (words, places) = read_sheet(RULES, bytes)
         .map_or((1000, 100), |sheet| (sheet.workspace_words(), sheet.m * (sheet.horizon + 1)));
     call(tally, lent, bytes, (words + more_work).min(PLENTY), places + more_out, name)
 }
 
 /// One word short, of the workspace, of the output, and of both.
 fn short(tally: &mut Tally, lent: &mut Lent, bytes: &[u8], name: &dyn Fn() -> String) {
-    let Ok(sheet) = read_sheet(bytes) else { return };
+    let Ok(sheet) = read_sheet(RULES, bytes) else { return };
     let (words, places) = (sheet.workspace_words(), sheet.m * (sheet.horizon + 1));
     for (words, places) in [(words - 1, places), (words, places - 1), (words - 1, places - 1)] {
         call(tally, lent, bytes, words, places, name);
@@ -133,8 +117,8 @@ fn call(
     lent.out.clear();
     lent.out.resize(places + PAST, old);
     let mut expected = lent.out.clone();
-    let answer = other::search(bytes, &mut lent.work[..words], &mut expected[..places]);
-    let numbers = numbers_of(&answer);
+    let answer = other::search::search(RULES, bytes, &mut lent.work[..words], &mut expected[..places]);
+    let numbers = search_numbers(&answer);
     let before = (numbers[0] != 0).then(|| lent.work[..words].to_vec());
     let guard: [u32; PAST] = std::array::from_fn(|k| lent.work[words + k]);
     let ours = search(bytes, &mut lent.work[..words], &mut lent.out[..places]);
@@ -151,7 +135,7 @@ fn call(
 /// A plan has the least flowtime that any plan has, by joint states; none has none; the bound of spent is below it.
 fn least(tally: &mut Tally, lent: &mut Lent, bytes: &[u8], name: &dyn Fn() -> String) {
     let ours = one(tally, lent, bytes, 0, 0, name);
-    let plain = naive::read(bytes).expect("an accepted sheet");
+    let plain = naive::read(RULES.changes(), bytes).expect("an accepted sheet");
     let optimum = naive::optimum(&plain).map(|flowtime| flowtime as u32);
     let ok = match ours[1] {
         0 => optimum == Some(ours[2]),

@@ -1,20 +1,21 @@
 //! Causes, workspaces and task goals: every kind of sheet, whole, damaged and cut off.
 
 use compare::{cause, task_goals, workspace};
-use deckref::gen::{self, Rng};
-use deckref::sheet::{self, read_sheet, Task};
+use other::gen::Rng;
+use other::sheet::{self, read_sheet, Task};
+use other::{generated, kinds, RULES};
 
 use crate::{Share, Tally};
 
 pub fn run(share: &Share) -> Tally {
     let mut tally = Tally::default();
     for seed in share.seeds(1500) {
-        for kind in gen::KINDS {
+        for kind in kinds() {
             let large = matches!(kind, "medium" | "full" | "max");
             if large && seed >= 300 {
                 continue;
             }
-            let bytes = gen::sheet(kind, seed).expect("a known kind");
+            let bytes = generated(kind, seed);
             one(&mut tally, &bytes, || format!("{kind} {seed}"));
             // Any byte of it changed, or the end cut off.
             let mut rng = Rng::new(seed);
@@ -37,13 +38,13 @@ pub fn run(share: &Share) -> Tally {
 }
 
 fn one(tally: &mut Tally, bytes: &[u8], name: impl Fn() -> String) {
-    let read = read_sheet(bytes);
+    let read = read_sheet(RULES, bytes);
     let number = read.as_ref().map_or_else(|cause| u32::from(cause.number()), |_| 0);
     let words = read.as_ref().map_or(0, |sheet| sheet.workspace_words());
     let count = read.as_ref().map_or(1, |sheet| sheet.m);
     let mut ok = cause(bytes) == number && workspace(bytes) == words;
     for task in (0..=count).chain([255, 65536, usize::MAX]) {
-        let goals = sheet::task_goals(bytes, Task(task));
+        let goals = sheet::task_goals(RULES, bytes, Task(task));
         let offset = goals.as_ptr() as usize - bytes.as_ptr() as usize;
         ok &= task_goals(bytes, task) == [offset, goals.len()];
     }

@@ -1,0 +1,51 @@
+//! The other author's planner as the tests ask it: under as many of document 02's changes as have landed here. `changes.txt` at the
+//! top has that number, and nothing else does.
+
+pub use deckref::*;
+
+use deckref::gen::KINDS;
+use deckref::rules::Rules;
+
+/// The changes in force.
+pub const RULES: Rules = match Rules::after(number(include_bytes!("../../../changes.txt"))) {
+    Some(rules) => rules,
+    None => panic!("changes.txt has a number from 0 to 14"),
+};
+
+/// The most words of workspace that any sheet asks for.
+pub const PLENTY: usize = 4_460_544;
+
+/// The number that the text's digits make.
+const fn number(text: &[u8]) -> u8 {
+    let (mut value, mut k) = (0, 0);
+    while k < text.len() {
+        if text[k].is_ascii_digit() {
+            value = 10 * value + (text[k] - b'0');
+        }
+        k += 1;
+    }
+    value
+}
+
+/// Every kind of sheet that can be made under these rules.
+pub fn kinds() -> impl Iterator<Item = &'static str> {
+    let later = [
+        ("lanes", RULES.lanes()),
+        ("dark", RULES.dark_house()),
+        ("closed", RULES.closures()),
+        ("hold", RULES.hold()),
+    ];
+    KINDS.into_iter().chain(later.into_iter().filter_map(|(kind, made)| made.then_some(kind)))
+}
+
+/// A sheet of one of these kinds; it may use what the changes in force bring.
+pub fn generated(kind: &str, seed: u64) -> Vec<u8> {
+    gen_changes::input(RULES, kind, seed).expect("a kind of the generator")
+}
+
+/// A sheet of one of document 01's kinds that uses nothing of document 02, in the form that the changes in force give it.
+pub fn plain(kind: &str, seed: u64) -> Vec<u8> {
+    let bytes = gen::sheet(kind, seed).expect("a kind of document 01's");
+    let read = naive::read(Rules::BASE.changes(), &bytes).expect("an accepted sheet");
+    naive::write(RULES.changes(), &read)
+}
