@@ -2,6 +2,9 @@
 
 use std::fmt;
 
+use crate::layout::{
+    area, byte, directory_end, pairs, word, Pair, COUNT, HEADER, HEIGHT, LIMIT, RESERVED, WIDTH,
+};
 use crate::{Carrier, Cause, Task};
 
 /// A refused sheet: the cause, and where it lies.
@@ -42,43 +45,6 @@ impl Field {
             Field::Count => ("the number of carriers and tasks", "1 to 12"),
             Field::NodeLimit => ("the node limit", "1 to 4096"),
             Field::Zero => ("a reserved byte", "0"),
-        }
-    }
-}
-
-/// What a pair of the directory points to.
-#[derive(Clone, Copy, PartialEq, Eq, Debug)]
-pub enum Pair {
-    Grid,
-    Starts,
-    Task(Task),
-}
-
-impl Pair {
-    /// By its number in the directory, from 0.
-    fn of(index: usize) -> Pair {
-        match index {
-            0 => Pair::Grid,
-            1 => Pair::Starts,
-            _ => Pair::Task(Task(index - 2)),
-        }
-    }
-
-    pub fn index(self) -> usize {
-        match self {
-            Pair::Grid => 0,
-            Pair::Starts => 1,
-            Pair::Task(task) => task.0.saturating_add(2),
-        }
-    }
-}
-
-impl fmt::Display for Pair {
-    fn fmt(&self, f: &mut fmt::Formatter<'_>) -> fmt::Result {
-        match self {
-            Pair::Grid => write!(f, "pair 0 (the grid)"),
-            Pair::Starts => write!(f, "pair 1 (the starts)"),
-            Pair::Task(task) => write!(f, "pair {} ({task})", self.index()),
         }
     }
 }
@@ -258,7 +224,7 @@ impl fmt::Display for Fault {
 /// Looks up where a cause lies.
 pub(crate) fn locate(cause: Cause, bytes: &[u8]) -> Refusal {
     let fault = match cause {
-        Cause::Short => (bytes.len() < 8).then_some(Fault::Length { bytes: bytes.len() }),
+        Cause::Short => (bytes.len() < HEADER).then_some(Fault::Length { bytes: bytes.len() }),
         Cause::Header => header(bytes),
         Cause::Directory => directory(bytes),
         Cause::Grid => grid(bytes),
@@ -270,42 +236,33 @@ pub(crate) fn locate(cause: Cause, bytes: &[u8]) -> Refusal {
     Refusal { cause, fault }
 }
 
-fn byte(bytes: &[u8], at: usize) -> usize {
-    bytes.get(at).copied().map_or(0, usize::from)
-}
-
-fn word(bytes: &[u8], at: usize) -> usize {
-    byte(bytes, at) + 256 * byte(bytes, at + 1)
-}
-
 fn header(bytes: &[u8]) -> Option<Fault> {
     let fields = [
-        (0, Field::Width, byte(bytes, 0), 1..=32),
-        (1, Field::Height, byte(bytes, 1), 1..=32),
-        (2, Field::Count, byte(bytes, 2), 1..=12),
-        (4, Field::NodeLimit, word(bytes, 4), 1..=4096),
-        (6, Field::Zero, byte(bytes, 6), 0..=0),
-        (7, Field::Zero, byte(bytes, 7), 0..=0),
+        (WIDTH, Field::Width, byte(bytes, WIDTH), 1..=32),
+        (HEIGHT, Field::Height, byte(bytes, HEIGHT), 1..=32),
+        (COUNT, Field::Count, byte(bytes, COUNT), 1..=12),
+        (LIMIT, Field::NodeLimit, word(bytes, LIMIT), 1..=4096),
+        (RESERVED, Field::Zero, byte(bytes, RESERVED), 0..=0),
+        (RESERVED + 1, Field::Zero, byte(bytes, RESERVED + 1), 0..=0),
     ];
     let wrong = fields.into_iter().find(|(_, _, value, range)| !range.contains(value));
     wrong.map(|(byte, field, value, _)| Fault::Header { byte, field, value })
 }
 
 fn directory(bytes: &[u8]) -> Option<Fault> {
-    let m = byte(bytes, 2);
-    let needed = 8 + 4 * (m + 2);
+    let m = byte(bytes, COUNT);
+    let needed = directory_end(m);
     if bytes.len() < needed {
         return Some(Fault::DirectoryCut { bytes: bytes.len(), needed });
     }
     let mut next = needed;
-    for index in 0..m + 2 {
-        let (pair, at) = (Pair::of(index), 8 + 4 * index);
-        let (offset, length) = (word(bytes, at), word(bytes, at + 2));
+    for pair in (0..pairs(m)).map(Pair::of) {
+        let (at, offset, length) = (pair.at(), pair.offset(bytes), pair.length(bytes));
         if offset != next {
             return Some(Fault::Offset { pair, byte: at, value: offset, expected: next });
         }
         let expected = match pair {
-            Pair::Grid => Some(byte(bytes, 0) * byte(bytes, 1)),
+            Pair::Grid => Some(area(bytes)),
             Pair::Starts => Some(2 * m),
             Pair::Task(_) => None,
         };
@@ -319,29 +276,23 @@ fn directory(bytes: &[u8]) -> Option<Fault> {
     (next != bytes.len()).then_some(Fault::End { bytes: bytes.len(), expected: next })
 }
 
-/// The offset of what a pair points to, of a sheet whose directory holds.
-fn offset(bytes: &[u8], pair: Pair) -> usize {
-    word(bytes, 8 + 4 * pair.index())
-}
-
 fn grid(bytes: &[u8]) -> Option<Fault> {
-    let (at, width) = (offset(bytes, Pair::Grid), byte(bytes, 0));
-    let area = width * byte(bytes, 1);
-    let place = (0..area).find(|&place| byte(bytes, at + place) > 1)?;
+    let (at, width) = (Pair::Grid.offset(bytes), byte(bytes, WIDTH));
+    let place = (0..area(bytes)).find(|&place| byte(bytes, at + place) > 1)?;
     Some(Fault::Grid { byte: at + place, place, width, value: byte(bytes, at + place) as u8 })
 }
 
 fn unfit(bytes: &[u8], place: usize) -> Option<Unfit> {
-    let area = byte(bytes, 0) * byte(bytes, 1);
+    let area = area(bytes);
     if place >= area {
         return Some(Unfit::OffGrid { area });
     }
-    (byte(bytes, offset(bytes, Pair::Grid) + place) != 0).then_some(Unfit::Blocked)
+    (byte(bytes, Pair::Grid.offset(bytes) + place) != 0).then_some(Unfit::Blocked)
 }
 
 fn starts(bytes: &[u8]) -> Option<Fault> {
-    let (first, width) = (offset(bytes, Pair::Starts), byte(bytes, 0));
-    for carrier in 0..byte(bytes, 2) {
+    let (first, width) = (Pair::Starts.offset(bytes), byte(bytes, WIDTH));
+    for carrier in 0..byte(bytes, COUNT) {
         let at = first + 2 * carrier;
         let place = word(bytes, at);
         if let Some(unfit) = unfit(bytes, place) {
@@ -357,14 +308,14 @@ fn starts(bytes: &[u8]) -> Option<Fault> {
 
 /// Where the goals of each task begin, and how many there are.
 fn stretches(bytes: &[u8]) -> impl Iterator<Item = (Task, usize, usize)> + '_ {
-    (0..byte(bytes, 2)).map(|task| {
-        let pair = 8 + 4 * (task + 2);
-        (Task(task), word(bytes, pair), word(bytes, pair + 2) / 2)
+    (0..byte(bytes, COUNT)).map(Task).map(|task| {
+        let pair = Pair::Task(task);
+        (task, pair.offset(bytes), pair.length(bytes) / 2)
     })
 }
 
 fn goals(bytes: &[u8]) -> Option<Fault> {
-    let width = byte(bytes, 0);
+    let width = byte(bytes, WIDTH);
     for (task, first, count) in stretches(bytes) {
         for goal in 0..count {
             let at = first + 2 * goal;
@@ -386,6 +337,6 @@ fn last_goals(bytes: &[u8]) -> Option<Fault> {
         .collect();
     lasts.iter().enumerate().find_map(|(index, &(task, byte, place))| {
         let other = lasts.iter().take(index).find(|earlier| earlier.2 == place)?.0;
-        Some(Fault::LastGoals { task, other, byte, place, width: self::byte(bytes, 0) })
+        Some(Fault::LastGoals { task, other, byte, place, width: self::byte(bytes, WIDTH) })
     })
 }

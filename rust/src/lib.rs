@@ -30,13 +30,15 @@
 pub mod calls;
 mod cause;
 mod fault;
+mod layout;
 mod parts;
 mod plan;
 mod planner;
 mod sheet;
 
 pub use cause::Cause;
-pub use fault::{Fault, Field, Pair, Refusal, Unfit};
+pub use fault::{Fault, Field, Refusal, Unfit};
+pub use layout::Pair;
 pub use parts::{first_collision, least_assignment, Assignment, Collision, Constraint, LeastPath, BARRED};
 pub use plan::{Answer, NotAPlan, Plan};
 pub use planner::Planner;

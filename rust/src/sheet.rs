@@ -3,6 +3,7 @@
 use std::fmt;
 
 use crate::fault::{self, Fault, Refusal};
+use crate::layout::{self, Pair};
 use crate::{calls, Cause};
 
 /// The most carriers, and the length of every task list.
@@ -68,29 +69,29 @@ impl Sheet {
     }
 
     pub fn width(&self) -> usize {
-        self.byte(0)
+        layout::byte(&self.bytes, layout::WIDTH)
     }
 
     pub fn height(&self) -> usize {
-        self.byte(1)
+        layout::byte(&self.bytes, layout::HEIGHT)
     }
 
     /// How many carriers there are, and as many tasks.
     pub fn m(&self) -> usize {
-        self.byte(2)
+        layout::byte(&self.bytes, layout::COUNT)
     }
 
     /// The horizon H: a path has H + 1 places, for times 0 to H.
     pub fn horizon(&self) -> usize {
-        self.byte(3)
+        layout::byte(&self.bytes, layout::HORIZON)
     }
 
     pub fn node_limit(&self) -> usize {
-        self.byte(4) + 256 * self.byte(5)
+        layout::word(&self.bytes, layout::LIMIT)
     }
 
     pub fn area(&self) -> usize {
-        self.width() * self.height()
+        layout::area(&self.bytes)
     }
 
     pub fn carriers(&self) -> impl Iterator<Item = Carrier> {
@@ -108,7 +109,7 @@ impl Sheet {
     /// Whether the place is on the floor and not blocked.
     pub fn is_free(&self, place: Place) -> bool {
         let place = usize::from(place.0);
-        place < self.area() && self.byte(self.grid_at() + place) == 0
+        place < self.area() && layout::byte(&self.bytes, Pair::Grid.offset(&self.bytes) + place) == 0
     }
 
     /// The place in column x and row y, both from 0.
@@ -124,8 +125,8 @@ impl Sheet {
 
     /// Where the carrier stands at time 0; `None` if there is no such carrier.
     pub fn start(&self, carrier: Carrier) -> Option<Place> {
-        let at = self.grid_at() + self.area() + 2 * carrier.0.min(MOST_CARRIERS);
-        (carrier.0 < self.m()).then(|| Place((self.byte(at) + 256 * self.byte(at + 1)) as u16))
+        let at = Pair::Starts.offset(&self.bytes) + 2 * carrier.0.min(MOST_CARRIERS);
+        (carrier.0 < self.m()).then(|| Place(layout::word(&self.bytes, at) as u16))
     }
 
     /// The stretch of the sheet with the task's goals, two bytes each; `None` if there is no such task.
@@ -154,19 +155,10 @@ impl Sheet {
     /// The same sheet with another node limit.
     pub fn with_node_limit(&self, limit: u16) -> Result<Sheet, Refusal> {
         let mut bytes = self.bytes.clone();
-        for (byte, value) in bytes.iter_mut().skip(4).zip(limit.to_le_bytes()) {
+        for (byte, value) in bytes.iter_mut().skip(layout::LIMIT).zip(limit.to_le_bytes()) {
             *byte = value;
         }
         Sheet::new(bytes)
-    }
-
-    fn byte(&self, at: usize) -> usize {
-        self.bytes.get(at).copied().map_or(0, usize::from)
-    }
-
-    /// The grid's offset, by the rule of the first pair.
-    fn grid_at(&self) -> usize {
-        8 + 4 * (self.m() + 2)
     }
 }
 
@@ -275,7 +267,7 @@ impl SheetBuilder {
         push(&mut bytes, 0);
         let lengths =
             [area, 2 * self.starts.len()].into_iter().chain(self.tasks.iter().map(|goals| 2 * goals.len()));
-        let mut offset = 8 + 4 * (self.tasks.len() + 2);
+        let mut offset = layout::directory_end(self.tasks.len());
         for length in lengths {
             push(&mut bytes, offset);
             push(&mut bytes, length);
