@@ -276,7 +276,7 @@ fn stay_after(records: &[u16], i: Carrier, g: usize, k: usize) -> usize
     word(records, k, 4) + 1
 }
 
-// The least time from which the carrier i may stay on g.
+// The least time from which the carrier i may stay on g, as far as its constraints say.
 pub fn stay_from(records: &[u16], i: Carrier, g: usize) -> usize
     requires { ⌜ countIn (now records) ≤ 4096 ⌝ }
     ensures { λ r. ⌜ r ≡ stayFrom i g (constraintsOf (now (records .entry))) ⌝ }

@@ -1,6 +1,6 @@
 -- From the least time to the answer and the words of the call. Assumes nothing.
 use Prim.Native.Nat.{ℕ, suc, _+_, _-_, _*_, _≤_, _<_, zero-le}
-use mathlib.Core.Path.{_≡_, refl, sym, _∙_, subst}
+use mathlib.Core.Path.{_≡_, refl, sym, ap, _∙_, subst}
 use mathlib.Core.Bool.{Bool, true}
 use mathlib.Core.List.{List}
 use native.Mathlib.Nat.{mul-le-mul}
@@ -14,10 +14,10 @@ use Rattle.deck.specs.Calls.{constraintsOf, workspaceFor, pathFound, pathWritte
 use Rattle.deck.specs.declared.Carrier.{Carrier}
 use Rattle.deck.specs.declared.Task.{Task}
 use Rattle.deck.specs.declared.PathAnswer.the-variants.{Found, NoPath}
-use Rattle.kernel.specs.Parts.{stayFrom}
+use Rattle.kernel.specs.Parts.{stayFrom, restFrom}
 use Rattle.kernel.specs.Kernel.{fore, hind, pathAt, meetsAt, LeastTime, NoEarlier}
 use Rattle.kernel.proofs.Both.{and-left}
-use Rattle.kernel.proofs.Least.{meets-can, hind-can, no-time-none, time-path, time-finish, bound-early}
+use Rattle.kernel.proofs.Least.{rest-from-is, meets-can, hind-can, no-time-none, time-path, time-finish, bound-early}
 use Rattle.passes.specs.Ready.{Ready, Goals, Turned, Early, roomFor}
 use Rattle.passes.proofs.Turning.{turned-goals}
 use Rattle.passes.proofs.Given.{begins-free, ends-free, in-time, few-records}
@@ -42,14 +42,18 @@ module _ (s : List ℕ) (i : Carrier) (j : Task) (mask rs : List ℕ) (r : Ready
   pub late-least : (from : ℕ) → Early s i j rs from → d .horizon < from → LeastTime d i j (constraintsOf rs) from
   late-least from e l = record { meets = λ h. absurd (omega arith); first = e .early }
 
+  -- what the constraints say of the last goal
+  pub rest-of : (stay g : ℕ) → stay ≡ stayFrom i g (constraintsOf rs) → g ≡ lastGoal d j → stay ≡ restFrom d i (lastGoal d j) (constraintsOf rs)
+  rest-of stay g e f = e ∙ ap (λ (x : ℕ). stayFrom i x (constraintsOf rs)) f ∙ sym (rest-from-is d i (lastGoal d j) (constraintsOf rs))
+
   -- the later of the bound and the time from which the carrier may stay
-  pub early-of : (bound stay from : ℕ) → NoEarlier d i j (constraintsOf rs) bound → stay ≡ stayFrom i (lastGoal d j) (constraintsOf rs)
+  pub early-of : (bound stay from : ℕ) → NoEarlier d i j (constraintsOf rs) bound → stay ≡ restFrom d i (lastGoal d j) (constraintsOf rs)
       → (bound ≤ from) × (stay ≤ from) × ((c : ℕ) → bound ≤ c → stay ≤ c → from ≤ c) → Early s i j rs from
   unfolding meetsAt
   early-of bound stay from h e g = record {
     stay = omega (arith, g .1);
     early = λ n l m. g .2 n (bound-early d i j (constraintsOf rs) (begins-free r) (ends-free r) (in-time r) bound h n l m)
-        (let x = leb→le (stayFrom i (lastGoal d j) (constraintsOf rs)) n (and-left (leb (stayFrom i (lastGoal d j) (constraintsOf rs)) n) (ltb (length (goalsOf d j)) (fore d i j (constraintsOf rs) n (lastGoal d j))) m) in omega arith);
+        (let x = leb→le (restFrom d i (lastGoal d j) (constraintsOf rs)) n (and-left (leb (restFrom d i (lastGoal d j) (constraintsOf rs)) n) (ltb (length (goalsOf d j)) (fore d i j (constraintsOf rs) n (lastGoal d j))) m) in omega arith);
   }
 
   module _ (end : ℕ) (t : LeastTime d i j (constraintsOf rs) end) where

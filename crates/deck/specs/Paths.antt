@@ -15,13 +15,18 @@ use Rattle.deck.specs.declared.Constraint.the-variants.{Place, Move}
 unfoldable pub oneApart : ℕ → ℕ → Bool
 oneApart a b = eqb (suc a) b || eqb (suc b) a
 
--- v is "beside" u "in the same row or column": the row of a place is place / w, its column place % w
-unfoldable pub beside : ℕ → ℕ → ℕ → Bool
-beside w u v = (eqb (u / w) (v / w) && oneApart (u % w) (v % w)) || (eqb (u % w) (v % w) && oneApart (u / w) (v / w))
+-- v is next to u "in the same row or column" of a grid of width w: the row of a place is place / w, its column place % w. It is a
+-- fact of the two numbers and the width, and the same seen from either place
+unfoldable pub nextTo : ℕ → ℕ → ℕ → Bool
+nextTo w u v = (eqb (u / w) (v / w) && oneApart (u % w) (v % w)) || (eqb (u % w) (v % w) && oneApart (u / w) (v / w))
+
+-- v is "beside" u on the sheet, seen from u: what a step from u to v asks of the grid, but for v being free
+unfoldable pub beside : Sheet → ℕ → ℕ → Bool
+beside d u v = nextTo (d .width) u v
 
 -- "Each step waits or goes to a free place beside it": the one name for whether a step may go from u to v
 unfoldable pub mayStep : Sheet → ℕ → ℕ → Bool
-mayStep d u v = eqb u v || (free d v && beside (d .width) u v)
+mayStep d u v = eqb u v || (free d v && beside d u v)
 
 -- the places that one step from u may lead to, rising
 unfoldable pub steps : Sheet → ℕ → List ℕ

@@ -17,10 +17,10 @@ use Rattle.meaning.proofs.Paths.{free-meant}
 use Rattle.sheet.proofs.Accepted.{area-range}
 use Rattle.kernel.specs.Layers.{Parts, pass, back, good}
 use Rattle.kernel.specs.Goals.{up}
-use Rattle.kernel.specs.Parts.{freeMove, freePlace, stepFree, partsOf}
+use Rattle.kernel.specs.Parts.{freeMove, freePlace, stands, stepFree, partsOf}
 use Rattle.kernel.proofs.Both.{and-left, and-right, and-both}
 use Rattle.kernel.proofs.Labels.{up-le}
-use Rattle.kernel.proofs.OfSheet.{step-free-meant}
+use Rattle.kernel.proofs.OfSheet.{stands-is, step-free-meant}
 use Rattle.bars.specs.Padded.{padOf}
 use Rattle.bars.proofs.Grid.{pad-most, size-of, size-small}
 use Rattle.layers.specs.Raise.{GoalsAt}
@@ -178,19 +178,24 @@ module _ {s : List ℕ} {i : Carrier} {j : Task} {mask goals rs heads links tabl
             let m : length (goalsOf d j) < c + back w (l .end - (t + 1)) (t + 1) v = subst (λ (y : ℕ). length (goalsOf d j) < c + back w (l .end - (t + 1)) y v) (sym (add-one t)) (meets-there h) in
             omega arith
 
+        -- what the constraints let
+        lets-stand : (b : Bool) → b ≡ (freeMove i (constraintsOf rs) t u v && freePlace i (constraintsOf rs) (t + 1) v)
+            → b ≡ (freeMove i (constraintsOf rs) t u v && stands d i (constraintsOf rs) (t + 1) v)
+        lets-stand b e = rw (stands-is d i (constraintsOf rs) (t + 1) v) e
+
         -- it is barred
         pub barred-way : (b : Bool) → b ≡ (freeMove i (constraintsOf rs) t u v && freePlace i (constraintsOf rs) (t + 1) v) → b ≡ false → Closed
         barred-way b e y h =
             let a = rw (← (op .at)) at (goes-asks x h .1) in
-            subst T (sym e ∙ y)
-            (and-both (freeMove i (constraintsOf rs) t u v) (freePlace i (constraintsOf rs) (t + 1) v) (and-right (stepFree d u v) (freeMove i (constraintsOf rs) t u v) (pass-step v a))
+            subst T (sym (lets-stand b e) ∙ y)
+            (and-both (freeMove i (constraintsOf rs) t u v) (stands d i (constraintsOf rs) (t + 1) v) (and-right (stepFree d u v) (freeMove i (constraintsOf rs) t u v) (pass-step v a))
             (rw (add-one t) (and-right (w .step t u v) (w .stand (suc t) v) a)))
 
         -- the way is open
         pub clear-way : (b : Bool) → b ≡ (freeMove i (constraintsOf rs) t u v && freePlace i (constraintsOf rs) (t + 1) v) → b ≡ true
             → Seen d i j (constraintsOf rs) (l .end) t u k x (To v q c)
         clear-way b e y =
-            let both : T (freeMove i (constraintsOf rs) t u v && freePlace i (constraintsOf rs) (t + 1) v) = subst T (sym (sym e ∙ y)) tt in
+            let both : T (freeMove i (constraintsOf rs) t u v && stands d i (constraintsOf rs) (t + 1) v) = subst T (sym (sym (lets-stand b e) ∙ y)) tt in
             let free-v : T (free d v) = rw (op .at) (op .is-free) in
             let touch = leads d u inside x lx (op .has) .beside in
             let step : T (stepFree d u v) = rw (op .at, step-near d u (placeBy d u x) touch) (and-both (free d u) (free d (placeBy d u x)) (o .on-free) (op .is-free)) in (
@@ -198,7 +203,7 @@ module _ {s : List ℕ} {i : Carrier} {j : Task} {mask goals rs heads links tabl
               op .at,
               counted,
               and-both (w .step t u v) (w .stand (suc t) v)
-                  (and-both (stepFree d u v) (freeMove i (constraintsOf rs) t u v) step (and-left (freeMove i (constraintsOf rs) t u v) (freePlace i (constraintsOf rs) (t + 1) v) both))
-                  (rw (← (add-one t)) (and-right (freeMove i (constraintsOf rs) t u v) (freePlace i (constraintsOf rs) (t + 1) v) both)),
+                  (and-both (stepFree d u v) (freeMove i (constraintsOf rs) t u v) step (and-left (freeMove i (constraintsOf rs) t u v) (stands d i (constraintsOf rs) (t + 1) v) both))
+                  (rw (← (add-one t)) (and-right (freeMove i (constraintsOf rs) t u v) (stands d i (constraintsOf rs) (t + 1) v) both)),
               record { on-free = free-v; padded = op .padded; label = count-within; time = omega arith },
             )

@@ -12,8 +12,9 @@ use Rattle.deck.specs.declared.Carrier.{Carrier}
 use Rattle.deck.specs.declared.Task.{Task}
 use Rattle.deck.specs.declared.Constraint.{Constraint}
 use Rattle.kernel.specs.Goals.{up}
-use Rattle.kernel.specs.Parts.{freePlace}
+use Rattle.kernel.specs.Parts.{freePlace, stands}
 use Rattle.kernel.proofs.Labels.{up-le}
+use Rattle.kernel.proofs.OfSheet.{stands-is}
 use Rattle.bars.specs.Padded.{padOf}
 use Rattle.layers.specs.Raise.{GoalsAt}
 use Rattle.layers.specs.Fill.{Filled}
@@ -49,9 +50,13 @@ module _ {s : List ℕ} {i : Carrier} {j : Task} {mask rs : List ℕ} (r : Ready
     time = zero-le;
   }
 
+  -- what the constraints say of the start at time 0
+  start-stands : (b : Bool) (u : ℕ) → u ≡ startOf d i → b ≡ freePlace i cs 0 u → b ≡ stands d i cs 0 (startOf d i)
+  start-stands b u eu e = e ∙ sym (stands-is d i cs 0 u) ∙ ap (λ (y : ℕ). stands d i cs 0 y) eu
+
   -- barred at time 0
   pub walked-barred : (b : Bool) (u : ℕ) (before : List ℕ) → u ≡ startOf d i → b ≡ freePlace i cs 0 u → b ≡ false → Walked d i j cs end before before NoWalk
-  walked-barred b u before eu e f = (start-barred d i j cs end b (e ∙ ap (λ (y : ℕ). freePlace i cs 0 y) eu) f, refl)
+  walked-barred b u before eu e f = (start-barred d i j cs end b (start-stands b u eu e) f, refl)
 
   module _ {u k : ℕ} (eu : u ≡ startOf d i) (ek : k ≡ up (startOf d i) (goalsOf d j) 0) {before after : List ℕ} {a : Tried} (h : Dived d i j cs end 0 u k before after a) where
     as-case : (b : Tried) → a ≡ b → Dived d i j cs end 0 u k before after b
@@ -71,6 +76,6 @@ module _ {s : List ℕ} {i : Carrier} {j : Task} {mask rs : List ℕ} (r : Ready
         → Walked d i j cs end before last Found
     walked-found e b eb f l room {last} {g} {lo} {hi} fill elo ehi eg =
         let q = as-case Found e .says in (
-          start-meets d i j cs end (subst T (sym (sym (eb ∙ ap (λ (y : ℕ). freePlace i cs 0 y) eu) ∙ f)) tt) u k eu ek (q .0),
+          start-meets d i j cs end (subst T (sym (sym (start-stands b u eu eb) ∙ f)) tt) u k eu ek (q .0),
           all-written d i j cs end l before after last u k g lo hi eu ek room (q .1) fill elo ehi eg,
         )

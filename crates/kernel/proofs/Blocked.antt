@@ -11,7 +11,7 @@ use Rattle.deck.specs.declared.Carrier.{Carrier}
 use Rattle.deck.specs.declared.Task.{Task}
 use Rattle.deck.specs.declared.Constraint.{Constraint}
 use Rattle.kernel.specs.Layers.{best}
-use Rattle.kernel.specs.Parts.{freeMove, freePlace, stepFree}
+use Rattle.kernel.specs.Parts.{freeMove, stands, stepFree}
 use Rattle.kernel.specs.Near.{near}
 use Rattle.kernel.specs.Kernel.{settle, fore, hind}
 use Rattle.kernel.proofs.Both.{and-left, and-right}
@@ -49,12 +49,12 @@ module _ (d : Sheet) (i : Carrier) (j : Task) (cs : List Constraint) where
 
   pub fore-blocked : T (free d (startOf d i)) → (t v : ℕ) → ¬ T (free d v) → fore d i j cs t v ≡ 0
   unfolding fore
-  fore-blocked s zero v h = settle-none (freePlace i cs 0) (goalsOf d j) v _ (seed-none v (startOf d i) (free d) s h)
-  fore-blocked s (suc t) v h = settle-none (freePlace i cs (suc t)) (goalsOf d j) v _
+  fore-blocked s zero v h = settle-none (stands d i cs 0) (goalsOf d j) v _ (seed-none v (startOf d i) (free d) s h)
+  fore-blocked s (suc t) v h = settle-none (stands d i cs (suc t)) (goalsOf d j) v _
       (best-none (λ u. stepFree d u v && freeMove i cs t u v) (fore d i j cs t) (near d v) (λ u k. h (free-both t u v (and-left (stepFree d u v) (freeMove i cs t u v) k) .1)))
 
   pub hind-blocked : T (free d (lastGoal d j)) → (n t u : ℕ) → ¬ T (free d u) → hind d i j cs n t u ≡ 0
   unfolding hind
-  hind-blocked s zero t u h = settle-none (freePlace i cs t) (reverse (goalsOf d j)) u _ (seed-none u (lastGoal d j) (free d) s h)
-  hind-blocked s (suc n) t u h = settle-none (freePlace i cs t) (reverse (goalsOf d j)) u _
+  hind-blocked s zero t u h = settle-none (stands d i cs t) (reverse (goalsOf d j)) u _ (seed-none u (lastGoal d j) (free d) s h)
+  hind-blocked s (suc n) t u h = settle-none (stands d i cs t) (reverse (goalsOf d j)) u _
       (best-none (λ v. stepFree d u v && freeMove i cs t u v) (hind d i j cs n (suc t)) (near d u) (λ v k. h (free-both t u v (and-left (stepFree d u v) (freeMove i cs t u v) k) .0)))

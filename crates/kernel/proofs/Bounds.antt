@@ -12,7 +12,7 @@ use Rattle.deck.specs.declared.Constraint.{Constraint}
 use Rattle.kernel.specs.Layers.{best, lift}
 use Rattle.kernel.specs.Goals.{up}
 use Rattle.kernel.specs.Near.{near}
-use Rattle.kernel.specs.Parts.{freeMove, freePlace, stepFree}
+use Rattle.kernel.specs.Parts.{freeMove, stands, stepFree}
 use Rattle.kernel.specs.Kernel.{settle, fore, hind}
 use Rattle.kernel.proofs.Labels.{up-le}
 
@@ -39,14 +39,14 @@ one-le false n = zero-le
 module _ (d : Sheet) (i : Carrier) (j : Task) (cs : List Constraint) where
   pub fore-le : (t v : ℕ) → fore d i j cs t v ≤ suc (length (goalsOf d j))
   unfolding fore
-  fore-le zero v = settle-le (freePlace i cs 0) (goalsOf d j) v _ (one-le (eqb v (startOf d i)) (length (goalsOf d j)))
-  fore-le (suc t) v = settle-le (freePlace i cs (suc t)) (goalsOf d j) v _
+  fore-le zero v = settle-le (stands d i cs 0) (goalsOf d j) v _ (one-le (eqb v (startOf d i)) (length (goalsOf d j)))
+  fore-le (suc t) v = settle-le (stands d i cs (suc t)) (goalsOf d j) v _
       (best-le (λ u. stepFree d u v && freeMove i cs t u v) (fore d i j cs t) (near d v) (suc (length (goalsOf d j))) (fore-le t))
 
   hind-turned : (n t u : ℕ) → hind d i j cs n t u ≤ suc (length (reverse (goalsOf d j)))
   unfolding hind
-  hind-turned zero t u = settle-le (freePlace i cs t) (reverse (goalsOf d j)) u _ (one-le (eqb u (lastGoal d j)) (length (reverse (goalsOf d j))))
-  hind-turned (suc n) t u = settle-le (freePlace i cs t) (reverse (goalsOf d j)) u _
+  hind-turned zero t u = settle-le (stands d i cs t) (reverse (goalsOf d j)) u _ (one-le (eqb u (lastGoal d j)) (length (reverse (goalsOf d j))))
+  hind-turned (suc n) t u = settle-le (stands d i cs t) (reverse (goalsOf d j)) u _
       (best-le (λ v. stepFree d u v && freeMove i cs t u v) (hind d i j cs n (suc t)) (near d u) (suc (length (reverse (goalsOf d j)))) (hind-turned n (suc t)))
 
   pub hind-le : (n t u : ℕ) → hind d i j cs n t u ≤ suc (length (goalsOf d j))

@@ -25,7 +25,7 @@ use Rattle.meaning.proofs.Paths.{free-meant}
 use Rattle.meaning.proofs.LeastPath.{LeastMeant, least-path-meant}
 use Rattle.kernel.specs.Layers.{Parts, pass, back, rest, trace}
 use Rattle.kernel.specs.Goals.{up, lowered}
-use Rattle.kernel.specs.Parts.{freeMove, stepFree, partsOf, stayAfter, stayFrom}
+use Rattle.kernel.specs.Parts.{freeMove, stepFree, partsOf, stayAfter, stayFrom, restFrom}
 use Rattle.kernel.specs.Kernel.{fore, hind, pathAt, meetsAt, LeastTime, NoEarlier}
 use Rattle.kernel.proofs.Both.{and-left, and-right, and-both}
 use Rattle.kernel.proofs.Choice.{lt-or-ge}
@@ -33,7 +33,7 @@ use Rattle.kernel.proofs.Labels.{up-le, lowered-iff}
 use Rattle.kernel.proofs.Passes.{Laws}
 use Rattle.kernel.proofs.Trace.{Can, can-at, at-can, front-can, can-front, back-can, can-back, traced-right, none-right}
 use Rattle.kernel.proofs.Finish.{finishAt, served-at, at-served}
-use Rattle.kernel.proofs.OfSheet.{InTime, LetsPlace, LetsMove, free-place-meant, free-move-meant, step-free-meant, sheet-laws, settled-start, settled-step, path-of, right-least}
+use Rattle.kernel.proofs.OfSheet.{InTime, LetsPlace, LetsMove, stands-meant, free-move-meant, step-free-meant, sheet-laws, settled-start, settled-step, path-of, right-least}
 use Rattle.kernel.proofs.Kernel.{fore-front, hind-back, follow-trace, rest-iff}
 
 -- the greatest of numbers
@@ -67,6 +67,11 @@ module _ (i : Carrier) (g : ℕ) (cs : List Constraint) where
   unfolding stayFrom
   all-stay n h c m = le-trans (greatest-all (map-mem (stayAfter i g) m)) h
 
+-- the time from which a carrier may stay, by its constraints
+pub rest-from-is : (d : Sheet) (i : Carrier) (g : ℕ) (cs : List Constraint) → restFrom d i g cs ≡ stayFrom i g cs
+unfolding restFrom
+rest-from-is d i g cs = refl
+
 -- where the test fails, or the number is bounded all the same
 cond-le : (b : Bool) (s n : ℕ) → (T b → s ≤ n) → cond b s 0 ≤ n
 cond-le true s n h = h tt
@@ -89,13 +94,16 @@ module _ (d : Sheet) (i : Carrier) (j : Task) (cs : List Constraint) (start : T 
   abbrev g : ℕ
   g = lastGoal d j
 
-  -- where each constraint lets the carrier stay from n on, it may stay
-  stay-rest : (n m : ℕ) → stayFrom i g cs ≤ n → T (rest w m n)
+  -- from `restFrom` on the carrier may stay
+  stay-rest : (n m : ℕ) → restFrom d i g cs ≤ n → T (rest w m n)
   stay-rest n m h = rest-iff w m n .1 (λ s a b. and-both (w .step s g g) (w .stand (suc s) g)
       (and-both (stepFree d g g) (freeMove i cs s g g) (step-free-meant d g g .test (on-free, (on-free, inl refl)))
-      (free-move-meant i cs s g g .test (λ c k. lets-move s a c (all-stay i g cs n h c k))))
-      (free-place-meant i cs (suc s) g .test (λ c k. lets-place s a c (all-stay i g cs n h c k))))
+      (free-move-meant i cs s g g .test (λ c k. lets-move s a c (all-stay i g cs n stays c k))))
+      (stands-meant d i cs (suc s) g .test (λ c k. lets-place s a c (all-stay i g cs n stays c k))))
     where
+      stays : stayFrom i (lastGoal d j) cs ≤ n
+      stays = rw (rest-from-is d i (lastGoal d j) cs) at h
+
       on-free : Free d (lastGoal d j)
       on-free = free-meant d (lastGoal d j) .fact end
 
@@ -113,9 +121,9 @@ module _ (d : Sheet) (i : Carrier) (j : Task) (cs : List Constraint) (start : T 
       lets-place s a (Place b x r) k = λ e f p.
           omega (arith, le-cond (eqb (b .0) (i .0) && eqb x (lastGoal d j)) (suc r) n (and-both (eqb (b .0) (i .0)) (eqb x (lastGoal d j)) (says-eqb .test e) (says-eqb .test (sym p))) k)
 
-  -- and where it may be there and stay, each constraint lets it
-  rest-stay : (n m : ℕ) → n + m ≡ d .horizon → T (rest w m n) → T (w .stand n g) → stayFrom i g cs ≤ n
-  rest-stay n m h r s = stay-all i g cs n (λ c k. within c k (timely c k))
+  -- and where it may be there and stay, `restFrom` is not later
+  rest-stay : (n m : ℕ) → n + m ≡ d .horizon → T (rest w m n) → T (w .stand n g) → restFrom d i g cs ≤ n
+  rest-stay n m h r s = rw (rest-from-is d i g cs) (stay-all i g cs n (λ c k. within c k (timely c k)))
     where
       at : (u : ℕ) → n ≤ u → u < d .horizon → T (pass w u g g)
       at u a b = rest-iff w m n .0 r u a (omega arith)
@@ -129,7 +137,7 @@ module _ (d : Sheet) (i : Carrier) (j : Task) (cs : List Constraint) (start : T 
               (λ y. let e : u ≡ suc (u - 1) = omega arith in rw e (and-right (w .step (u - 1) g g) (w .stand (suc (u - 1)) g) (at (u - 1) (omega arith) (omega arith)))) (eq-or-lt-of-le z)
 
           later : b .0 ≡ i .0 → x ≡ lastGoal d j → n ≤ u → ⊥
-          later e f z = free-place-meant i cs u (lastGoal d j) .fact (stands z) (Place b x u) k e refl (sym f)
+          later e f z = stands-meant d i cs u (lastGoal d j) .fact (stands z) (Place b x u) k e refl (sym f)
       within (Move b x y u) k l = cond-le (eqb (b .0) (i .0) && eqb x (lastGoal d j) && eqb y (lastGoal d j)) (suc u) n
           (λ t. let f = says-and (says-and says-eqb says-eqb) says-eqb .fact t in ⊎-elim (λ z. z) (λ z. absurd (later (f .0 .0) (f .0 .1) (f .1) z)) (lt-or-ge u n))
         where
@@ -148,21 +156,21 @@ module _ (d : Sheet) (i : Carrier) (j : Task) (cs : List Constraint) (start : T 
   unfolding meetsAt
   meets-can n m e = record {
     fact = λ t.
-        let a = leb→le (stayFrom i g cs) n (and-left (leb (stayFrom i g cs) n) _ t) in
-        let b = ltb→lt (length (goalsOf d j)) (fore d i j cs n g) (and-right (leb (stayFrom i g cs) n) _ t) in
+        let a = leb→le (restFrom d i g cs) n (and-left (leb (restFrom d i g cs) n) _ t) in
+        let b = ltb→lt (length (goalsOf d j)) (fore d i j cs n g) (and-right (leb (restFrom d i g cs) n) _ t) in
         front-can w (sheet-laws d i j cs start) m n (stay-rest n m a) (rw (fore-front d i j cs n g) at b);
     test = λ c.
         let b : length (goalsOf d j) < fore d i j cs n g = rw (fore-front d i j cs n g) (can-front w (sheet-laws d i j cs start) m n c) in
-        and-both (leb (stayFrom i g cs) n) _ (le→leb (stayFrom i g cs) n (rest-stay n m e (c .rests) (fore-stands n g (length (goalsOf d j)) b)))
+        and-both (leb (restFrom d i g cs) n) _ (le→leb (restFrom d i g cs) n (rest-stay n m e (c .rests) (fore-stands n g (length (goalsOf d j)) b)))
         (lt→ltb (length (goalsOf d j)) (fore d i j cs n g) b);
   }
 
   -- and so does the test by the backward layers
-  pub hind-can : (n m : ℕ) → n + m ≡ d .horizon → (Can w m n) ↔ ((stayFrom i g cs ≤ n) × (length (goalsOf d j) < hind d i j cs n 0 (startOf d i)))
+  pub hind-can : (n m : ℕ) → n + m ≡ d .horizon → (Can w m n) ↔ ((restFrom d i g cs ≤ n) × (length (goalsOf d j) < hind d i j cs n 0 (startOf d i)))
   unfolding meetsAt
   hind-can n m e = (
     λ c. (
-      leb→le (stayFrom i g cs) n (and-left (leb (stayFrom i g cs) n) _ (meets-can n m e .test c)),
+      leb→le (restFrom d i g cs) n (and-left (leb (restFrom d i g cs) n) _ (meets-can n m e .test c)),
       rw (hind-back d i j cs n 0 (startOf d i)) (lowers c),
     ),
     λ h.

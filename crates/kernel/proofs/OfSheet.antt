@@ -24,7 +24,7 @@ use Rattle.meaning.proofs.Paths.{path-finish, free-meant, step-meant}
 use Rattle.meaning.proofs.LeastPath.{least-path-is, no-least-path}
 use Rattle.kernel.specs.Layers.{Parts, pass}
 use Rattle.kernel.specs.Goals.{up}
-use Rattle.kernel.specs.Parts.{barsPlace, barsMove, freePlace, freeMove, stepFree, partsOf}
+use Rattle.kernel.specs.Parts.{barsPlace, barsMove, freePlace, freeMove, stands, stepFree, partsOf}
 use Rattle.kernel.proofs.Both.{and-left, and-right, and-both}
 use Rattle.kernel.proofs.Labels.{up-ge, up-le, up-mono, up-twice, lowered-iff, left-after, visited, visited-le}
 use Rattle.kernel.proofs.Near.{wide-of, beside-turned, beside-near, self-near, near-rising}
@@ -56,6 +56,14 @@ lets-move i t u v (Move a x y s) =
 pub free-place-meant : (i : Carrier) (cs : List Constraint) (t u : ℕ) → Says (freePlace i cs t u) ((c : Constraint) → Mem c cs → LetsPlace i t u c)
 unfolding freePlace
 free-place-meant i cs t u = says-all (λ c. not (barsPlace i t u c)) (LetsPlace i t u) (lets-place i t u) cs
+
+-- where a carrier may stand, by its constraints
+pub stands-is : (d : Sheet) (i : Carrier) (cs : List Constraint) (t u : ℕ) → stands d i cs t u ≡ freePlace i cs t u
+unfolding stands
+stands-is d i cs t u = refl
+
+pub stands-meant : (d : Sheet) (i : Carrier) (cs : List Constraint) (t u : ℕ) → Says (stands d i cs t u) ((c : Constraint) → Mem c cs → LetsPlace i t u c)
+stands-meant d i cs t u = rw (stands-is d i cs t u) (free-place-meant i cs t u)
 
 pub free-move-meant : (i : Carrier) (cs : List Constraint) (t u v : ℕ) → Says (freeMove i cs t u v) ((c : Constraint) → Mem c cs → LetsMove i t u v c)
 unfolding freeMove
@@ -146,8 +154,8 @@ module _ (d : Sheet) (i : Carrier) (j : Task) (cs : List Constraint) (start : T 
     free-at zero l = start-free
     free-at (suc s) l = ⊎-elim (λ e. subst (Free d) e (free-at s (omega arith))) (λ b. b .0) (h .path .goes s l)
 
-    stand-at : (s : ℕ) → T (freePlace i cs s ((startOf d i ∷ q) at s))
-    stand-at s = free-place-meant i cs s _ .test (λ c m. lets c (h .keeps c m))
+    stand-at : (s : ℕ) → T (stands d i cs s ((startOf d i ∷ q) at s))
+    stand-at s = stands-meant d i cs s _ .test (λ c m. lets c (h .keeps c m))
       where
         lets : (c : Constraint) → Keeps i (startOf d i ∷ q) c → LetsPlace i s ((startOf d i ∷ q) at s) c
         lets (Place a x r) k = λ e f. subst (λ (z : ℕ). (startOf d i ∷ q) at z ≢ x) f (k e)
@@ -165,7 +173,7 @@ module _ (d : Sheet) (i : Carrier) (j : Task) (cs : List Constraint) (start : T 
         let u : ℕ = (startOf d i ∷ q) at s in
         let v : ℕ = (startOf d i ∷ q) at (suc s) in
         let a : T (stepFree d u v) = step-free-meant d u v .test (free-at s (omega arith), (free-at (suc s) l, h .path .goes s l)) in
-        and-both (stepFree d u v && freeMove i cs s u v) (freePlace i cs (suc s) v) (and-both (stepFree d u v) (freeMove i cs s u v) a (move-at s)) (stand-at (suc s))
+        and-both (stepFree d u v && freeMove i cs s u v) (stands d i cs (suc s) v) (and-both (stepFree d u v) (freeMove i cs s u v) a (move-at s)) (stand-at (suc s))
 
     pub served-of : Served w (d .horizon) q
     served-of = record {
@@ -181,12 +189,12 @@ module _ (d : Sheet) (i : Carrier) (j : Task) (cs : List Constraint) (start : T 
     passes : (s : ℕ) → s < d .horizon → T (pass w s ((startOf d i ∷ q) at s) ((startOf d i ∷ q) at (suc s)))
     passes s l = goes-at w 0 (startOf d i) q (v .goes) s s (omega arith) (omega (arith, v .long))
 
-    stands : (s : ℕ) → s ≤ d .horizon → T (freePlace i cs s ((startOf d i ∷ q) at s))
-    stands zero l = v .stands
-    stands (suc s) l = and-right (w .step s ((startOf d i ∷ q) at s) ((startOf d i ∷ q) at (suc s))) _ (passes s l)
+    stood : (s : ℕ) → s ≤ d .horizon → T (stands d i cs s ((startOf d i ∷ q) at s))
+    stood zero l = v .stands
+    stood (suc s) l = and-right (w .step s ((startOf d i ∷ q) at s) ((startOf d i ∷ q) at (suc s))) _ (passes s l)
 
     kept : (c : Constraint) → Mem c cs → InTime (d .horizon) c → Keeps i (startOf d i ∷ q) c
-    kept (Place a x s) m l = λ e f. free-place-meant i cs s ((startOf d i ∷ q) at s) .fact (stands s l) (Place a x s) m e refl f
+    kept (Place a x s) m l = λ e f. stands-meant d i cs s ((startOf d i ∷ q) at s) .fact (stood s l) (Place a x s) m e refl f
     kept (Move a x y s) m l =
         let u : ℕ = (startOf d i ∷ q) at s in
         let z : ℕ = (startOf d i ∷ q) at (suc s) in

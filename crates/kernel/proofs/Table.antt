@@ -13,26 +13,27 @@ use Rattle.deck.specs.Assignments.{barred, entryOf}
 use Rattle.deck.specs.declared.Carrier.{Carrier}
 use Rattle.deck.specs.declared.Task.{Task}
 use Rattle.deck.specs.declared.Constraint.{Constraint}
-use Rattle.kernel.specs.Parts.{freePlace, freeMove, stepFree, stayFrom}
+use Rattle.kernel.specs.Parts.{freePlace, freeMove, stepFree, stayFrom, restFrom}
 use Rattle.kernel.specs.Near.{near}
 use Rattle.kernel.specs.Kernel.{settle, hind, LeastTime}
 use Rattle.kernel.proofs.Kernel.{best-same}
-use Rattle.kernel.proofs.OfSheet.{InTime}
-use Rattle.kernel.proofs.Least.{meets-can, hind-can, time-path, time-finish, no-time-none}
+use Rattle.kernel.proofs.OfSheet.{InTime, stands-is}
+use Rattle.kernel.proofs.Least.{rest-from-is, meets-can, hind-can, time-path, time-finish, no-time-none}
 
 pub hind-timeless : (d : Sheet) (i k : Carrier) (j : Task) (n t s u : ℕ) → hind d i j [] n t u ≡ hind d k j [] n s u
 unfolding hind freePlace freeMove
-hind-timeless d i k j zero t s u = refl
+hind-timeless d i k j zero t s u = rw (stands-is d i [] t u, stands-is d k [] s u) refl
 hind-timeless d i k j (suc n) t s u =
-    ap (settle (λ (x : ℕ). true) (reverse (goalsOf d j)) u)
-    (best-same (λ v. stepFree d u v && true) (hind d i j [] n (suc t)) (hind d k j [] n (suc s)) (hind-timeless d i k j n (suc t) (suc s)) (near d u))
+    rw (stands-is d i [] t u, stands-is d k [] s u)
+    (ap (settle (λ (x : ℕ). true) (reverse (goalsOf d j)) u)
+    (best-same (λ v. stepFree d u v && true) (hind d i j [] n (suc t)) (hind d k j [] n (suc s)) (hind-timeless d i k j n (suc t) (suc s)) (near d u)))
 
 no-constraint : (d : Sheet) (c : Constraint) → Mem c [] → InTime (d .horizon) c
 no-constraint d c m = absurd (not-nil m)
 
-stay-none : (i : Carrier) (g : ℕ) → stayFrom i g [] ≡ 0
+rest-none : (d : Sheet) (i : Carrier) (g : ℕ) → restFrom d i g [] ≡ 0
 unfolding stayFrom
-stay-none i g = refl
+rest-none d i g = rest-from-is d i g []
 
 module _ (d : Sheet) (i : Carrier) (j : Task) (start : T (free d (startOf d i))) (end : T (free d (lastGoal d j))) where
   -- r steps before the last goal the start has every goal for the first time, or has not within the horizon
@@ -45,7 +46,7 @@ module _ (d : Sheet) (i : Carrier) (j : Task) (start : T (free d (startOf d i)))
     meets = λ l.
         let e : r + (d .horizon - r) ≡ d .horizon = omega arith in
         meets-can d i j [] start end (no-constraint d) r (d .horizon - r) e .test
-        (hind-can d i j [] start end (no-constraint d) r (d .horizon - r) e .1 (omega (arith, stay-none i (lastGoal d j)), f .has l));
+        (hind-can d i j [] start end (no-constraint d) r (d .horizon - r) e .1 (omega (arith, rest-none d i (lastGoal d j)), f .has l));
     first = λ n l t.
         let e : n + (d .horizon - n) ≡ d .horizon = omega arith in
         f .first n l (hind-can d i j [] start end (no-constraint d) n (d .horizon - n) e .0 (meets-can d i j [] start end (no-constraint d) n (d .horizon - n) e .fact t) .1);

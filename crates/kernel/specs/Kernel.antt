@@ -14,7 +14,7 @@ use Rattle.deck.specs.declared.Task.{Task}
 use Rattle.deck.specs.declared.Constraint.{Constraint}
 use Rattle.kernel.specs.Layers.{Parts, best, firstOf, lift, back}
 use Rattle.kernel.specs.Goals.{up}
-use Rattle.kernel.specs.Parts.{partsOf, stayFrom}
+use Rattle.kernel.specs.Parts.{partsOf, restFrom}
 
 -- a layer: a number for each place. At v what lies there is raised by v itself, and is 0 where one may not be
 abbrev pub settle : (ℕ → Bool) → List ℕ → ℕ → ℕ → ℕ
@@ -58,7 +58,7 @@ module _ (d : Sheet) (i : Carrier) (j : Task) (cs : List Constraint) where
 
   -- at n all goals can be visited with the carrier on the last goal, and it may stay there
   unfoldable pub meetsAt : ℕ → Bool
-  meetsAt n = leb (stayFrom i (lastGoal d j) cs) n && ltb (length (goalsOf d j)) (fore n (lastGoal d j))
+  meetsAt n = leb (restFrom d i (lastGoal d j) cs) n && ltb (length (goalsOf d j)) (fore n (lastGoal d j))
 
   -- r is the least time at which the task can be finished, and above the horizon where there is none
   pub record LeastTime (r : ℕ) : Type 0 where

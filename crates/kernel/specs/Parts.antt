@@ -25,11 +25,16 @@ abbrev pub barsMove : Carrier → ℕ → ℕ → ℕ → Constraint → Bool
 barsMove i t u v (Place a x s) = false
 barsMove i t u v (Move a x y s) = eqb (a .0) (i .0) && eqb s t && eqb u x && eqb v y
 
+-- no constraint bars the carrier from u at t
 unfoldable pub freePlace : Carrier → List Constraint → ℕ → ℕ → Bool
 freePlace i cs t u = all (λ c. not (barsPlace i t u c)) cs
 
 unfoldable pub freeMove : Carrier → List Constraint → ℕ → ℕ → ℕ → Bool
 freeMove i cs t u v = all (λ c. not (barsMove i t u v c)) cs
+
+-- at t the carrier may be on u: the one name for where it may stand at a time, so that the layers do not rest on what bars it
+unfoldable pub stands : Sheet → Carrier → List Constraint → ℕ → ℕ → Bool
+stands d i cs t u = freePlace i cs t u
 
 -- a step from a free place to a free place
 unfoldable pub stepFree : Sheet → ℕ → ℕ → Bool
@@ -39,7 +44,7 @@ abbrev pub partsOf : Sheet → Carrier → Task → List Constraint → Parts
 partsOf d i j cs =
     record {
       step = λ t u v. stepFree d u v && freeMove i cs t u v;
-      stand = freePlace i cs;
+      stand = stands d i cs;
       succs = near d;
       preds = near d;
       start = startOf d i;
@@ -55,6 +60,10 @@ abbrev pub stayAfter : Carrier → ℕ → Constraint → ℕ
 stayAfter i g (Place a x s) = cond (eqb (a .0) (i .0) && eqb x g) (suc s) 0
 stayAfter i g (Move a x y s) = cond (eqb (a .0) (i .0) && eqb x g && eqb y g) (suc s) 0
 
--- the least time from which the carrier may stay on g
+-- the least time from which the constraints let the carrier stay on g
 unfoldable pub stayFrom : Carrier → ℕ → List Constraint → ℕ
 stayFrom i g cs = greatest (map (stayAfter i g) cs)
+
+-- the least time from which the carrier may stay on g: for staying what `stands` is for one time
+unfoldable pub restFrom : Sheet → Carrier → ℕ → List Constraint → ℕ
+restFrom d i g cs = stayFrom i g cs

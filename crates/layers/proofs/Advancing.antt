@@ -15,8 +15,9 @@ use Rattle.deck.specs.Sheet.{Sheet, free, carrier}
 use Rattle.deck.specs.Calls.{recordWord, constraintsOf}
 use Rattle.kernel.specs.Layers.{lift}
 use Rattle.kernel.specs.Goals.{up}
-use Rattle.kernel.specs.Parts.{freePlace}
+use Rattle.kernel.specs.Parts.{stands}
 use Rattle.kernel.proofs.Choice.{lt-or-ge}
+use Rattle.kernel.proofs.OfSheet.{stands-is}
 use Rattle.bars.specs.Padded.{padOf}
 use Rattle.bars.specs.Bars.{wayOf, moveSlot, placeSlot, OnLayer, Chained, Cleared}
 use Rattle.bars.proofs.Grid.{pad-inj, pad-most, size-of, size-small}
@@ -107,6 +108,11 @@ module _ (w h : ℕ) (mask rs : List ℕ) (i : ℕ) (heads links : List ℕ) (t 
         (subst (λ (z : ℕ). Filled (w + 2) ((w + 2) * (z + 1)) (spreadBy src ways (w + 2)) before after) (sym k) fill));
   }
 
+-- clearing the barred places keeps the labels where the carrier may stand
+stand-cleared : (d : Sheet) (rs : List ℕ) (i on : ℕ) → 0 < d .width → {one two : List ℕ} (v : ℕ) → Cleared rs i on (placeSlot rs (d .width)) 0 one two
+    → getD two (padOf (d .width) v) 0 ≡ cond (stands d (carrier i) (constraintsOf rs) on v) (getD one (padOf (d .width) v) 0) 0
+stand-cleared d rs i on z {one} {two} v c = rw (stands-is d (carrier i) (constraintsOf rs) on v) (place-cleared rs i on (d .width) z one two v c)
+
 -- the labels advanced, those on barred places taken away, the others raised
 pub all-stepped : (w h : ℕ) (mask rs : List ℕ) (i t on : ℕ) (back : Bool) (goals : List ℕ) (n : ℕ) (src before : List ℕ) {one two after : List ℕ} → 1 ≤ w
     → Advanced w h mask (carrier i) (constraintsOf rs) t back src before one → Cleared rs i on (placeSlot rs w) 0 one two → Raised goals n two after
@@ -123,8 +129,8 @@ all-stepped w h mask rs i t on back goals n src before {one} {two} {after} w1 a 
         inside = λ v b.
             r .at (padOf (d .width) v)
             ∙ raised-up (d .width) z gs goals n ga v (getD two (padOf (d .width) v) 0)
-            ∙ ap (lift (up v gs)) (place-cleared rs i on (d .width) z one two v cl ∙ ap (λ (y : ℕ). cond (freePlace (carrier i) (constraintsOf rs) on v) y 0) (x .inside v b))
-            ∙ lift-cond (freePlace (carrier i) (constraintsOf rs) on v) (up v gs) (around d (carrier i) (constraintsOf rs) t back f v);
+            ∙ ap (lift (up v gs)) (stand-cleared d rs i on z v cl ∙ ap (λ (y : ℕ). cond (stands d (carrier i) (constraintsOf rs) on v) y 0) (x .inside v b))
+            ∙ lift-cond (stands d (carrier i) (constraintsOf rs) on v) (up v gs) (around d (carrier i) (constraintsOf rs) t back f v);
         border = λ p b.
             let e : getD two p 0 ≡ 0 = omega (arith, c .less p, x .border p b) in
             r .at p ∙ rw e (raise-none goals n p);
@@ -151,8 +157,8 @@ all-seeded w rs i on goals n p {one} {two} {after} w1 small made c r = record {
         inside = λ v b.
             r .at (padOf (d .width) v)
             ∙ raised-up (d .width) z gs goals n ga v (getD two (padOf (d .width) v) 0)
-            ∙ ap (lift (up v gs)) (place-cleared rs i on (d .width) z one two v cl ∙ ap (λ (y : ℕ). cond (freePlace (carrier i) (constraintsOf rs) on v) y 0) (first d v v0 z pl (ℕ-discrete v v0)))
-            ∙ lift-if (freePlace (carrier i) (constraintsOf rs) on v) (up v gs) (cond (eqb v v0) 1 0);
+            ∙ ap (lift (up v gs)) (stand-cleared d rs i on z v cl ∙ ap (λ (y : ℕ). cond (stands d (carrier i) (constraintsOf rs) on v) y 0) (first d v v0 z pl (ℕ-discrete v v0)))
+            ∙ lift-if (stands d (carrier i) (constraintsOf rs) on v) (up v gs) (cond (eqb v v0) 1 0);
         border = λ q b.
             let f : getD two q 0 ≡ 0 = omega (arith, c .less q, other q (λ x. b v0 in-grid (sym pl ∙ sym x))) in
             r .at q ∙ rw f (raise-none goals n q);

@@ -10,7 +10,7 @@ use Rattle.deck.specs.declared.Carrier.{Carrier}
 use Rattle.deck.specs.declared.Constraint.{Constraint}
 use Rattle.kernel.specs.Layers.{best}
 use Rattle.kernel.specs.Near.{near}
-use Rattle.kernel.specs.Parts.{freePlace, freeMove, stepFree}
+use Rattle.kernel.specs.Parts.{freeMove, stands, stepFree}
 use Rattle.kernel.specs.Kernel.{settle, seed}
 use Rattle.bars.specs.Padded.{padOf, Holds, MaskOf}
 use Rattle.layers.specs.Raise.{GoalsAt}
@@ -25,7 +25,7 @@ around d i cs t back f v = best (mayGo d i cs t back v) f (near d v)
 
 -- the next layer: `on` is the time at which one is there, t that of the moves
 abbrev pub nextLayer : Sheet → Carrier → List Constraint → (t on : ℕ) → Bool → List ℕ → (ℕ → ℕ) → ℕ → ℕ
-nextLayer d i cs t on back gs f v = settle (freePlace i cs on) gs v (around d i cs t back f v)
+nextLayer d i cs t on back gs f v = settle (stands d i cs on) gs v (around d i cs t back f v)
 
 -- the width, the height and the mask are those of the sheet
 pub record Ground (d : Sheet) (w h : ℕ) (mask : List ℕ) : Type 0 where
@@ -64,4 +64,4 @@ pub record Stepped (w h : ℕ) (mask : List ℕ) (i : Carrier) (cs : List Constr
 pub record Seeded (w : ℕ) (i : Carrier) (cs : List Constraint) (on : ℕ) (goals : List ℕ) (n p : ℕ) (layer : List ℕ) : Type 0 where
   pub size : length layer ≡ 1156
   pub holds : (d : Sheet) (gs : List ℕ) (v : ℕ) → d .width ≡ w → GoalsAt w gs goals n → v < area d → p ≡ padOf w v
-      → Holds d layer (seed (freePlace i cs on) gs v)
+      → Holds d layer (seed (stands d i cs on) gs v)

@@ -11,13 +11,13 @@ use lib.ListN.{length}
 use lib.Dec.{T}
 use Rattle.deck.specs.Lists.{all}
 use Rattle.deck.specs.Sheet.{Sheet, area, free, startOf, goalsOf, lastGoal}
-use Rattle.deck.specs.Paths.{oneApart, beside, mayStep, walks, finishOf, serves, keeps}
+use Rattle.deck.specs.Paths.{oneApart, nextTo, beside, mayStep, walks, finishOf, serves, keeps}
 use Rattle.deck.specs.PlanCheck.{follows, isPath}
 use Rattle.deck.specs.declared.Carrier.{Carrier}
 use Rattle.deck.specs.declared.Task.{Task}
 use Rattle.deck.specs.declared.Constraint.{Constraint}
 use Rattle.deck.specs.declared.Constraint.the-variants.{Place, Move}
-use Rattle.meaning.specs.Meaning.{_at_, Free, OneApart, Beside, Step, Visits, Finish, Path, Keeps}
+use Rattle.meaning.specs.Meaning.{_at_, Free, OneApart, NextTo, Beside, Step, Visits, Finish, Path, Keeps}
 use Rattle.meaning.proofs.Tests.{Says, says-eqb, says-leb, says-and, says-or, says-not, says-nil, says-iff}
 use Rattle.meaning.proofs.ListTests.{says-all}
 use Rattle.meaning.proofs.Walks.{step-iff, walk-of-mem, mem-of-walk}
@@ -32,6 +32,10 @@ says-then {a = false} f g = record { fact = λ t. absurd t; test = λ h. f .test
 pub apart-meant : (a b : ℕ) → Says (oneApart a b) (OneApart a b)
 unfolding oneApart
 apart-meant a b = says-or says-eqb says-eqb
+
+pub next-meant : (w u v : ℕ) → Says (nextTo w u v) (NextTo w u v)
+unfolding nextTo
+next-meant w u v = says-or (says-and says-eqb (apart-meant _ _)) (says-and says-eqb (apart-meant _ _))
 
 -- a path has the finish that is computed
 pub path-finish : {d : Sheet} {i : Carrier} {j : Task} {p : List ℕ} {t : ℕ} → Path d i j p t → finishOf d j p ≡ t
@@ -52,9 +56,9 @@ module _ (d : Sheet) where
   pub free-meant : (v : ℕ) → Says (free d v) (Free d v)
   free-meant v = says-iff (says-and says-leb says-eqb) (λ h. record { on-grid = h .0; unblocked = h .1 }, λ f. (f .on-grid, f .unblocked))
 
-  pub beside-meant : (u v : ℕ) → Says (beside (d .width) u v) (Beside d u v)
+  pub beside-meant : (u v : ℕ) → Says (beside d u v) (Beside d u v)
   unfolding beside
-  beside-meant u v = says-or (says-and says-eqb (apart-meant _ _)) (says-and says-eqb (apart-meant _ _))
+  beside-meant u v = next-meant (d .width) u v
 
   pub step-meant : (u v : ℕ) → Says (mayStep d u v) (Step d u v)
   unfolding mayStep

@@ -29,11 +29,14 @@ pub record Free (d : Sheet) (v : ℕ) : Type 0 where
 abbrev pub OneApart : ℕ → ℕ → Type 0
 OneApart a b = (suc a ≡ b) ⊎ (suc b ≡ a)
 
--- v is beside u: in the same row and in columns one apart, or in the same column and in rows one apart
+-- v is next to u on a grid of width w: in the same row and in columns one apart, or in the same column and in rows one apart. The same
+-- seen from either place
+abbrev pub NextTo : (w u v : ℕ) → Type 0
+NextTo w u v = ((u / w ≡ v / w) × OneApart (u % w) (v % w)) ⊎ ((u % w ≡ v % w) × OneApart (u / w) (v / w))
+
+-- v is beside u on the sheet, seen from u
 abbrev pub Beside : Sheet → ℕ → ℕ → Type 0
-Beside d u v =
-    ((u / d .width ≡ v / d .width) × OneApart (u % d .width) (v % d .width))
-    ⊎ ((u % d .width ≡ v % d .width) × OneApart (u / d .width) (v / d .width))
+Beside d u v = NextTo (d .width) u v
 
 -- a step waits, or goes to a free place beside
 abbrev pub Step : Sheet → ℕ → ℕ → Type 0

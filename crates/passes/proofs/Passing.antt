@@ -15,7 +15,7 @@ use Rattle.deck.specs.declared.Carrier.{Carrier}
 use Rattle.deck.specs.declared.Task.{Task}
 use Rattle.deck.specs.declared.Constraint.{Constraint}
 use Rattle.sheet.proofs.Accepted.{goal-on-grid, last-goal-on-grid, start-on-grid}
-use Rattle.kernel.specs.Parts.{stayFrom}
+use Rattle.kernel.specs.Parts.{restFrom}
 use Rattle.kernel.specs.Kernel.{fore, hind, meetsAt, LeastTime}
 use Rattle.kernel.proofs.Both.{and-left, and-right, and-both}
 use Rattle.kernel.proofs.Choice.{lt-or-ge}
@@ -141,13 +141,13 @@ module _ (s : List ℕ) (i : Carrier) (j : Task) (mask rs : List ℕ) (r : Ready
         let q : T (leb from t && ltb n (getD a p 0)) = subst T (sym e ∙ eb) tt in
         let x = leb→le from t (and-left (leb from t) (ltb n (getD a p 0)) q) in
         let y = ltb→lt n (getD a p 0) (and-right (leb from t) (ltb n (getD a p 0)) q) in
-        and-both (leb (stayFrom i (lastGoal d j) cs) t) (ltb many (fore d i j cs t (lastGoal d j)))
-        (le→leb (stayFrom i (lastGoal d j) cs) t (omega (arith, f .stay))) (lt→ltb many (fore d i j cs t (lastGoal d j)) (omega (arith, at-goal)))
+        and-both (leb (restFrom d i (lastGoal d j) cs) t) (ltb many (fore d i j cs t (lastGoal d j)))
+        (le→leb (restFrom d i (lastGoal d j) cs) t (omega (arith, f .stay))) (lt→ltb many (fore d i j cs t (lastGoal d j)) (omega (arith, at-goal)))
 
     pub met-false : b ≡ false → ¬ T (meetsAt d i j cs t)
     unfolding meetsAt
     met-false e m =
-        let y = ltb→lt many (fore d i j cs t (lastGoal d j)) (and-right (leb (stayFrom i (lastGoal d j) cs) t) (ltb many (fore d i j cs t (lastGoal d j))) m) in
+        let y = ltb→lt many (fore d i j cs t (lastGoal d j)) (and-right (leb (restFrom d i (lastGoal d j) cs) t) (ltb many (fore d i j cs t (lastGoal d j))) m) in
         subst T (sym eb ∙ e) (and-both (leb from t) (ltb n (getD a p 0)) (le→leb from t (f .early t l m)) (lt→ltb n (getD a p 0) (omega (arith, at-goal))))
 
     pub time-here : NotYet t → b ≡ true → LeastTime d i j cs t

@@ -9,7 +9,7 @@ use Rattle.deck.specs.Sheet.{read, area, countOf, goalsOf, lastGoal, cause}
 use Rattle.deck.specs.Calls.{constraintsOf, goodRecords}
 use Rattle.deck.specs.declared.Carrier.{Carrier}
 use Rattle.deck.specs.declared.Task.{Task}
-use Rattle.kernel.specs.Parts.{stayFrom}
+use Rattle.kernel.specs.Parts.{restFrom}
 use Rattle.kernel.specs.Kernel.{hind, meetsAt}
 use Rattle.bars.specs.Padded.{MaskOf}
 use Rattle.bars.specs.Bars.{countIn, Chained}
@@ -33,7 +33,7 @@ Turned s j goals = GoalsAt (read s .width) (reverse (goalsOf (read s) j)) goals 
 
 -- a time from which the carrier may stay on its last goal, and before which it cannot finish
 pub record Early (s : List ℕ) (i : Carrier) (j : Task) (rs : List ℕ) (from : ℕ) : Type 0 where
-  pub stay : stayFrom i (lastGoal (read s) j) (constraintsOf rs) ≤ from
+  pub stay : restFrom (read s) i (lastGoal (read s) j) (constraintsOf rs) ≤ from
   pub early : (n : ℕ) → n ≤ read s .horizon → T (meetsAt (read s) i j (constraintsOf rs) n) → from ≤ n
 
 -- how many words of workspace the passes take: a link for each record, and the layers

@@ -8,10 +8,10 @@ use native.Mathlib.Nat.{eq-or-lt-of-le}
 use native.Mathlib.Omega.{arith}
 use lib.ListN.{length, getD}
 use lib.Dec.{eqb}
-use Rattle.deck.specs.Paths.{oneApart, beside, finish}
+use Rattle.deck.specs.Paths.{oneApart, nextTo, finish}
 use Rattle.meaning.specs.Meaning.{OneApart}
-use Rattle.meaning.proofs.Tests.{Says, same-test, says-eqb, says-and, says-or, is-false}
-use Rattle.meaning.proofs.Paths.{apart-meant}
+use Rattle.meaning.proofs.Tests.{Says, same-test, says-eqb, is-false}
+use Rattle.meaning.proofs.Paths.{apart-meant, next-meant}
 use Rattle.meaning.proofs.Finish.{finish-rests, finish-least}
 
 -- two tests that say the same are the same
@@ -29,24 +29,14 @@ not-apart : (a b : ℕ) → a ≡ b → ¬ OneApart a b
 not-apart a b e = ⊎-elim (λ q. omega arith) (λ q. omega arith)
 
 module _ (w u v : ℕ) where
-  abbrev InRow : Type 0
-  InRow = (u / w ≡ v / w) × OneApart (u % w) (v % w)
+  pub next-row : u / w ≡ v / w → oneApart (u % w) (v % w) ≡ nextTo w u v
+  next-row e = same-says (apart-meant _ _) (next-meant w u v) (λ h. inl (e, h)) (⊎-elim (λ h. h .1) (λ h. absurd (not-apart _ _ e (h .1))))
 
-  abbrev InColumn : Type 0
-  InColumn = (u % w ≡ v % w) × OneApart (u / w) (v / w)
+  pub next-column : (u / w ≡ v / w → ⊥) → u % w ≡ v % w → oneApart (u / w) (v / w) ≡ nextTo w u v
+  next-column n e = same-says (apart-meant _ _) (next-meant w u v) (λ h. inr (e, h)) (⊎-elim (λ h. absurd (n (h .0))) (λ h. h .1))
 
-  says-beside : Says (beside w u v) (InRow ⊎ InColumn)
-  unfolding beside
-  says-beside = says-or (says-and says-eqb (apart-meant _ _)) (says-and says-eqb (apart-meant _ _))
-
-  pub beside-row : u / w ≡ v / w → oneApart (u % w) (v % w) ≡ beside w u v
-  beside-row e = same-says (apart-meant _ _) says-beside (λ h. inl (e, h)) (⊎-elim (λ h. h .1) (λ h. absurd (not-apart _ _ e (h .1))))
-
-  pub beside-column : (u / w ≡ v / w → ⊥) → u % w ≡ v % w → oneApart (u / w) (v / w) ≡ beside w u v
-  beside-column n e = same-says (apart-meant _ _) says-beside (λ h. inr (e, h)) (⊎-elim (λ h. absurd (n (h .0))) (λ h. h .1))
-
-  pub not-beside : (u / w ≡ v / w → ⊥) → (u % w ≡ v % w → ⊥) → false ≡ beside w u v
-  not-beside n k = sym (is-false (beside w u v) (λ t. ⊎-elim (λ h. n (h .0)) (λ h. k (h .0)) (says-beside .fact t)))
+  pub not-next : (u / w ≡ v / w → ⊥) → (u % w ≡ v % w → ⊥) → false ≡ nextTo w u v
+  not-next n k = sym (is-false (nextTo w u v) (λ t. ⊎-elim (λ h. n (h .0)) (λ h. k (h .0)) (next-meant w u v .fact t)))
 
 -- the path is on g from t on
 abbrev pub OnFrom : ℕ → List ℕ → ℕ → Type 0

@@ -7,7 +7,7 @@ ghost use Prim.Native.Nat.{suc, _<_, _≤_};
 ghost use lib.ListN.{length, drop};
 ghost use Rattle.deck.specs.Lists.{isNil};
 ghost use Rattle.deck.specs.Sheet.{read, cause, widthOf, horizonOf, goalsOf};
-ghost use Rattle.deck.specs.Paths.{oneApart, beside, mayStep, visit, left, finish as finishOn};
+ghost use Rattle.deck.specs.Paths.{oneApart, nextTo, mayStep, visit, left, finish as finishOn};
 ghost use Rattle.deck.specs.PlanCheck.{follows};
 ghost use Rattle.path_check.specs.Answers.{pathAnswer};
 
@@ -24,10 +24,10 @@ fn one_apart(a: usize, b: usize) -> bool
     if a < b { b - a == 1 } else { a - b == 1 }
 }
 
-// v is beside u in the same row or column of a grid of width w.
+// v is beside u: next to it in the same row or column of a grid of width w.
 fn is_beside(w: usize, u: usize, v: usize) -> bool
     requires { ⌜ 0 < w ⌝ }
-    ensures { λ r. ⌜ r ≡ beside w u v ⌝ }
+    ensures { λ r. ⌜ r ≡ nextTo w u v ⌝ }
 {
     if u / w == v / w {
         return one_apart(u % w, v % w);

@@ -1,6 +1,6 @@
 -- `path_check::is_beside` meets its contract: each way out is a law of rows and columns. Assumes nothing.
 use mathlib.Core.Path.{_∙_}
-use Rattle.path_check.proofs.Steps.{beside-row, beside-column, not-beside}
+use Rattle.path_check.proofs.Steps.{next-row, next-column, not-next}
 use borrow.Author.Needs.{needs}
 use Rattle.path_check.proofs.is_beside.Statement.{statement}
 use Rattle.path_check.proofs.is_beside.Tie as tie
@@ -21,7 +21,7 @@ one-apart-requires : tie.Need-one-apart-requires
 one-apart-requires c κs = search needs
 
 returns : tie.Need-returns
-returns c = c .one-apart .ensures ∙ beside-row _ _ _ (c .before .if1 .taken)
+returns c = c .one-apart .ensures ∙ next-row _ _ _ (c .before .if1 .taken)
 
 rem-if2 : tie.Need-rem-if2
 rem-if2 c = search needs
@@ -40,10 +40,10 @@ one-apart-requires-2 c κs = search needs
 
 returns-2 : tie.Need-returns-2
 returns-2 c =
-    c .one-apart2 .ensures ∙ beside-column _ _ _ (c .before .before .if1 .left) (c .before .if2 .taken)
+    c .one-apart2 .ensures ∙ next-column _ _ _ (c .before .before .if1 .left) (c .before .if2 .taken)
 
 returns-3 : tie.Need-returns-3
-returns-3 c = not-beside _ _ _ (c .before .if1 .left) (c .if2 .left)
+returns-3 c = not-next _ _ _ (c .before .if1 .left) (c .if2 .left)
 
 pub is-beside-spec : {M : Type 1} → statement M
 is-beside-spec =

@@ -2,14 +2,12 @@
 use borrow.Author.Needs.{needs}
 use native.Mathlib.Omega.{arith}
 use mathlib.Core.Path.{_≡_, refl, ap, _∙_}
-use Prim.Native.Nat.{ℕ, _-_, _≤_}
+use Prim.Native.Nat.{_-_, _≤_}
 use lib.ListN.{length}
-use Rattle.deck.specs.Calls.{constraintsOf}
-use Rattle.kernel.specs.Parts.{stayFrom}
 use Rattle.sheet.proofs.Accepted.{count-range}
 use Rattle.passes.specs.Ready.{Early}
 use Rattle.passes.proofs.Given.{few-records, times-small, horizon-most}
-use Rattle.by_passes.proofs.Finding.{early-of}
+use Rattle.by_passes.proofs.Finding.{rest-of, early-of}
 use Rattle.scratch.proofs.Seeking.{early-bound, tried-found, tried-cut, tried-later, part-inside, part-low, part-long}
 use Rattle.scratch.proofs.by_walk.Statement.{statement}
 use Rattle.scratch.proofs.by_walk.Tie as tie
@@ -47,7 +45,7 @@ loop-holds : tie.Need-loop-holds Inv-loop μ-loop
 loop-holds c =
     let u = c .before .before .before .before .before .before .before .before .before .before .before .before .args in
     let p = c .before .before .before .before .before .before .before .before .before .before .before .before .pre in
-    (early-of (u .s .now) (u .i) (u .j) (u .mask .now) (u .records .now) (p .0) (u .bound) (c .before .stay-from .result) (c .later .result) (p .1) (c .before .stay-from .ensures ∙ ap (λ (g : ℕ). stayFrom (u .i) g (constraintsOf (u .records .now))) (c .before .before .last-goal .ensures .0)) (c .later .ensures), refl, omega arith)
+    (early-of (u .s .now) (u .i) (u .j) (u .mask .now) (u .records .now) (p .0) (u .bound) (c .before .stay-from .result) (c .later .result) (p .1) (rest-of (u .s .now) (u .i) (u .j) (u .mask .now) (u .records .now) (p .0) (c .before .stay-from .result) (c .before .before .last-goal .result) (c .before .stay-from .ensures) (c .before .before .last-goal .ensures .0)) (c .later .ensures), refl, omega arith)
 
 same-length : tie.Need-same-length Inv-loop μ-loop
 same-length c = ap length (c .before .before .loop .inv .1)
