@@ -44,7 +44,7 @@ piece-requires : tie.Need-piece-requires Inv-loop μ-loop
 piece-requires c κs = omega (arith, words-fit (c .before .before .before .before .before .before .before) (c .before .before .before .loop .i) (c .before .before .loop-test .taken))
 
 put-carrier-requires : tie.Need-put-carrier-requires Inv-loop μ-loop
-put-carrier-requires c κs = (c .before .before .before .before .before .before .before .before .before .pre .0, search needs)
+put-carrier-requires c κs = search needs
 
 add-i : tie.Need-add-i Inv-loop μ-loop
 add-i c = search needs
