@@ -12,6 +12,7 @@ use lib.Seq.{getD-append-add}
 use lib.Dec.{T, leb}
 use borrow.Author.Tests.{leb-true, leb-false}
 use Rattle.deck.specs.Lists.{countFrom, below, sum, select, each, takeLeast, pickLeast, headOf}
+use Rattle.meaning.specs.Sorted.{Sorted}
 
 module _ {A B : Type 0} where
   pub mem-map : (f : A → B) (l : List A) {y : B} → Mem y (map f l) → (x : A) × Mem x l × (y ≡ f x)
@@ -110,23 +111,18 @@ each-at f w s (x ∷ l) c d (suc i) j h k =
     rw (e, getD-append-add (f x) (each f l) (i * w + j) d) (each-at f w s l c d i j (le-of-suc-le-suc h) k)
 
 module _ {A : Type 0} (R : A → A → Type 0) where
-  -- each element stands in the relation R to each later one
-  abbrev pub Sorted : List A → Type 0
-  Sorted [] = Unit {0}
-  Sorted (x ∷ l) = ((y : A) → Mem y l → R x y) × Sorted l
-
-  pub sorted-append : (l r : List A) → Sorted l → Sorted r → ((x y : A) → Mem x l → Mem y r → R x y) → Sorted (l ++ r)
+  pub sorted-append : (l r : List A) → Sorted R l → Sorted R r → ((x y : A) → Mem x l → Mem y r → R x y) → Sorted R (l ++ r)
   sorted-append [] r h k g = k
   sorted-append (x ∷ l) r h k g = (
     λ y m. ⊎-elim (h .0 y) (g x y (here refl)) (cases-append l m),
     sorted-append l r (h .1) k (λ z y m n. g z y (there m) n),
   )
 
-  pub sorted-select : (f : A → Bool) (l : List A) → Sorted l → Sorted (select f l)
+  pub sorted-select : (f : A → Bool) (l : List A) → Sorted R l → Sorted R (select f l)
   sorted-select f [] h = tt
   sorted-select f (x ∷ l) h = go (f x) (sorted-select f l (h .1))
     where
-      go : (b : Bool) → Sorted (select f l) → Sorted (cond b (x ∷ select f l) (select f l))
+      go : (b : Bool) → Sorted R (select f l) → Sorted R (cond b (x ∷ select f l) (select f l))
       go true k = (λ y m. h .0 y (mem-select f l m .0), k)
       go false k = k
 
@@ -135,7 +131,7 @@ module _ {A : Type 0} (R : A → A → Type 0) where
   Head l none = l ≡ []
   Head l (some x) = Mem x l × ((y : A) → Mem y l → (y ≡ x) ⊎ R x y)
 
-  pub head-first : (l : List A) → Sorted l → Head l (headOf l)
+  pub head-first : (l : List A) → Sorted R l → Head l (headOf l)
   head-first [] h = refl
   head-first (x ∷ l) h = (here refl, λ y m. ⊎-elim (λ e. inl e) (λ n. inr (h .0 y n)) (cases-cons m))
 

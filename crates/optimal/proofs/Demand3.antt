@@ -16,7 +16,8 @@ use Rattle.meaning.proofs.Paths.{path-finish}
 use Rattle.optimal.specs.Plans.{IsPlan, Best, NoPlanBelow as NoneBelow}
 use Rattle.optimal.proofs.Sums.{sum-by-index, length-below, getD-below}
 use Rattle.optimal.proofs.Optimal.{exact-best}
-use Rattle.optimal.proofs.Deck.{rules, laws}
+use Rattle.optimal.specs.Deck.{rules}
+use Rattle.optimal.proofs.Deck.{laws}
 use Rattle.meaning.proofs.Accepted.{accepted-limit, accepted-horizon, accepted-start}
 
 module _ (d : Sheet) where
