@@ -1,13 +1,13 @@
 -- Laws of the lists that the definitions are made of: what stands in them, and in what order. Assumes nothing.
 use Prim.Native.Nat.{ℕ, zero, suc, _+_, _*_, _≤_, _<_}
-use mathlib.Core.Path.{_≡_, refl, sym, ap, subst}
+use mathlib.Core.Path.{_≡_, refl, sym, ap, subst, _∙_}
 use mathlib.Core.Logic.{_↔_, _⊎_, inl, inr, ⊎-elim}
 use mathlib.Core.Bool.{Bool, true, false, cond}
 use mathlib.Core.List.{List, [], _∷_, _++_, map, List·Memᴰ as Mem, List·Memᴰ·head as here, List·Memᴰ·tail as there, List·Memᴰ·not-nil as not-nil, List·Memᴰ·cases-cons as cases-cons, List·Memᴰ·append-cases as cases-append, Memᴰ·append-left as in-left, Memᴰ·append-right as in-right}
 use mathlib.Core.Option.{Option, none, some}
 use native.Mathlib.Nat.{not-suc-le-zero, eq-or-lt-of-le, le-trans, le-refl, le-of-lt, le-of-suc-le-suc, suc-mul}
 use native.Mathlib.Omega.{arith}
-use lib.ListN.{length, getD, List·getD-append}
+use lib.ListN.{length, length-map, getD, List·getD-append}
 use lib.Seq.{getD-append-add}
 use lib.Dec.{T, leb}
 use borrow.Author.Tests.{leb-true, leb-false}
@@ -98,6 +98,13 @@ pub getD-tabulate : {A : Type 0} (f : ℕ → A) (k n i : ℕ) (d : A) → i < n
 getD-tabulate f k zero i d h = absurd (not-suc-le-zero h)
 getD-tabulate f k (suc n) zero d h = let e : k ≡ k + 0 = omega arith in ap f e
 getD-tabulate f k (suc n) (suc i) d h = let e : suc k + i ≡ k + suc i = omega arith in rw (getD-tabulate f (suc k) n i d (omega arith)) (ap f e)
+
+-- f at each number below n
+pub length-below : {A : Type 0} (n : ℕ) (f : ℕ → A) → length (map f (below n)) ≡ n
+length-below n f = length-map (below n) f ∙ length-countFrom 0 n
+
+pub getD-below : {A : Type 0} (n : ℕ) (f : ℕ → A) (i : ℕ) (d : A) → i < n → getD (map f (below n)) i d ≡ f i
+getD-below n f i d h = let e : 0 + i ≡ i = omega arith in getD-tabulate f 0 n i d h ∙ ap f e
 
 -- the rows f x, all of length w, one after the other: the element j of row i
 pub each-at : {A B : Type 0} (f : A → List B) (w : ℕ) → ((x : A) → length (f x) ≡ w) → (l : List A) (c : A) (d : B)

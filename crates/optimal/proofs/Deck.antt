@@ -23,13 +23,12 @@ use Rattle.deck.specs.declared.Collision.{Collision}
 use Rattle.deck.specs.declared.Collision.the-variants.{Place as PlaceCollision, Move as MoveCollision}
 use Rattle.meaning.specs.Meaning.{_at_, Step, Path, Keeps, pathOf, Collides, FirstCollision, Assignment, Less}
 use Rattle.meaning.specs.Sorted.{Sorted}
-use Rattle.meaning.proofs.Lists.{mem-below, sum-same}
+use Rattle.meaning.proofs.Lists.{mem-below, sum-same, getD-below}
 use Rattle.meaning.proofs.LeastPath.{LeastMeant, least-path-meant}
 use Rattle.meaning.proofs.Collisions.{FirstMeant, first-collision-meant, no-first-collides}
 use Rattle.meaning.proofs.Assignments.{in-order-meant, in-order-rising, table-at, sum-at}
 use Rattle.optimal.specs.Plans.{Legals, IsLeast, Splits, Served, Rising, Laws}
 use Rattle.optimal.specs.Deck.{Fit, rules}
-use Rattle.optimal.proofs.Sums.{getD-below}
 
 -- Of paths that do not collide one is not on u at t
 split-place : (h : ℕ) (p q : List ℕ) (t u : ℕ) → t ≤ h → ¬ Collides h p q → (p at t ≢ u) ⊎ (q at t ≢ u)

@@ -10,9 +10,10 @@ use native.Mathlib.Nat.{le-refl}
 use native.Mathlib.Decide.{ℕ-discrete}
 use lib.ListN.{set, length-set}
 use Rattle.deck.specs.Search.{Problem, Node, taskOf, pathAt, flowtime, pathOr, rootOf, childWith, childNode, child}
+use Rattle.meaning.proofs.Lists.{length-below, getD-below}
 use Rattle.optimal.specs.Plans.{Rules, Legals, IsPlan, Fits, KeepsAll, KeepsOwn, Under, IsLeast, Served, Laws}
 use Rattle.optimal.specs.Nodes.{IsNode, Covers}
-use Rattle.optimal.proofs.Sums.{sum-le, length-below, getD-below, set-all}
+use Rattle.optimal.proofs.Sums.{sum-le, set-all}
 
 module _ {Path Constraint : Type 0} (w : Problem Path Constraint) (r : Rules Path Constraint) where
   pub legals : {n : Node Path Constraint} → IsNode w r n → Legals w r (n .tasks) (n .paths)

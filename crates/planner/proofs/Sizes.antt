@@ -26,6 +26,7 @@ use Rattle.deck.specs.declared.CollisionAnswer.the-variants.{Found, NoCollision
 use Rattle.deck.specs.declared.CheckAnswer.{CheckAnswer}
 use Rattle.deck.specs.declared.CheckAnswer.the-variants.{Yes, No, Refused as CheckRefused}
 use Rattle.meaning.specs.Meaning.{_at_}
+use Rattle.meaning.proofs.Lists.{length-below, getD-below}
 use Rattle.meaning.proofs.LeastPath.{LeastMeant, least-path-meant}
 use Rattle.meaning.proofs.Accepted.{accepted, header-says, accepted-limit, accepted-horizon, accepted-start}
 use Rattle.meaning.proofs.Assignments.{Least, least-assignment, entries-length, entries-at}
@@ -33,7 +34,6 @@ use Rattle.optimal.specs.Plans.{Laws}
 use Rattle.optimal.specs.Nodes.{IsNode}
 use Rattle.optimal.specs.Invariant.{Invariant}
 use Rattle.optimal.specs.Deck.{rules}
-use Rattle.optimal.proofs.Sums.{length-below, getD-below}
 use Rattle.optimal.proofs.Invariant.{Chosen, Picked, start-inv, TurnRight, turn-right}
 use Rattle.optimal.proofs.Select.{cheapest-picks}
 use Rattle.optimal.proofs.Deck.{laws}

@@ -17,13 +17,13 @@ use Rattle.deck.specs.declared.Constraint.{Constraint}
 use Rattle.deck.specs.declared.Collision.{Collision}
 use Rattle.deck.specs.declared.CollisionAnswer.{CollisionAnswer}
 use Rattle.deck.specs.declared.CollisionAnswer.the-variants.{Found as CollisionFound}
+use Rattle.meaning.proofs.Lists.{length-below, getD-below}
 use Rattle.meaning.proofs.Accepted.{accepted-start, accepted-horizon}
 use Rattle.meaning.specs.Making.{makeEach}
 use Rattle.meaning.proofs.Limit.{one-at-a-time}
 use Rattle.sheet.proofs.Accepted.{limit-range}
 use Rattle.optimal.specs.Plans.{Laws, Splits}
 use Rattle.optimal.specs.Deck.{rules}
-use Rattle.optimal.proofs.Sums.{length-below, getD-below}
 use Rattle.optimal.proofs.Deck.{laws}
 use Rattle.optimal.proofs.Invariant.{Chosen, Picked, taken-is-node, node-splits}
 use Rattle.optimal.proofs.Select.{cheapest-picks}
