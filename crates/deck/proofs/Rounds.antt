@@ -7,7 +7,7 @@ use Rattle.deck.specs.Collisions.{pairs, placeCollides, moveCollides, co
 use Rattle.deck.specs.Assignments.{arrangements, assignments, entriesFrom, entries, sumOf, allowed, assignmentsInOrder, leastAssignment, entryOf, tableOf}
 use Rattle.deck.specs.Search.{searched}
 use Rattle.deck.specs.Planner.{sides, sidesOf, problem, planFor}
-use Rattle.deck.specs.PlanCheck.{follows, isPath, arePaths, isAssignment, isPlan, finishes, planCheck}
+use Rattle.deck.specs.PlanCheck.{follows, isPath, arePaths, isAssignment, isPlan, planCheck}
 use Rattle.deck.specs.Calls.{workspaceFor, goalsCause, goalsCall, constraintsOf, goodRecord, goodRecords, pathCause, pathFound, pathWritten, pathAnswerFor, pathOutputFor, assignmentCause, leastFor, assignmentKind, assignmentTasks, collisionCause, collisionFound, collisionFor, collisionCall, searchCause, searchFound, searchWritten, searchAnswerFor, searchOutputFor, searchAnswer, searchOutput, checkCause, checkFound, checkFor, checkCall}
 use Rattle.deck.specs.Listing.{digits, decimal, textFrom, text, spaced, carrierLine, carrierLines, listingFor, listing}
 use Rattle.deck.specs.Rounds.{Round, answered, Holds}
@@ -19,7 +19,7 @@ Every [] = Unit {0}
 Every (r ∷ rs) = Holds r × Every rs
 
 every-round : Every starred × Every further
-unfolding words goodHeader chained goalsSize goodDirectory goodGrid goodStarts goodGoals goodLastGoals cause oneApart nextTo beside mayStep steps walks visit left finish serves keeps pathsUnder leastPath pairs placeCollides moveCollides collisionsAt collisions firstCollision arrangements assignments entriesFrom entries sumOf allowed assignmentsInOrder leastAssignment entryOf tableOf searched sides sidesOf problem planFor follows isPath arePaths isAssignment isPlan finishes planCheck workspaceFor goalsCause goalsCall constraintsOf goodRecord goodRecords pathCause pathFound pathWritten pathAnswerFor pathOutputFor assignmentCause leastFor assignmentKind assignmentTasks collisionCause collisionFound collisionFor collisionCall searchCause searchFound searchWritten searchAnswerFor searchOutputFor searchAnswer searchOutput checkCause checkFound checkFor checkCall digits decimal textFrom text spaced carrierLine carrierLines listingFor listing answered
+unfolding words goodHeader chained goalsSize goodDirectory goodGrid goodStarts goodGoals goodLastGoals cause oneApart nextTo beside mayStep steps walks visit left finish serves keeps pathsUnder leastPath pairs placeCollides moveCollides collisionsAt collisions firstCollision arrangements assignments entriesFrom entries sumOf allowed assignmentsInOrder leastAssignment entryOf tableOf searched sides sidesOf problem planFor follows isPath arePaths isAssignment isPlan planCheck workspaceFor goalsCause goalsCall constraintsOf goodRecord goodRecords pathCause pathFound pathWritten pathAnswerFor pathOutputFor assignmentCause leastFor assignmentKind assignmentTasks collisionCause collisionFound collisionFor collisionCall searchCause searchFound searchWritten searchAnswerFor searchOutputFor searchAnswer searchOutput checkCause checkFound checkFor checkCall digits decimal textFrom text spaced carrierLine carrierLines listingFor listing answered
 every-round = (
   (refl, (refl, (refl, (refl, (refl, (refl, (refl, (refl, (refl, (refl, (refl, (refl, (refl, (refl, (refl, (refl, (refl, (refl, (refl, tt))))))))))))))))))),
   (refl, (refl, (refl, (refl, (refl, (refl, (refl, (refl, (refl, (refl, (refl, (refl, (refl, (refl, (refl, (refl, (refl, (refl, (refl, (refl, (refl, (refl, (refl, (refl, (refl, (refl, (refl, (refl, (refl, (refl, (refl, (refl, (refl, (refl, (refl, (refl, (refl, (refl, (refl, (refl, (refl, (refl, (refl, (refl, (refl, (refl, (refl, (refl, (refl, (refl, (refl, (refl, (refl, (refl, (refl, (refl, (refl, (refl, (refl, (refl, (refl, (refl, (refl, (refl, (refl, (refl, (refl, (refl, (refl, (refl, (refl, (refl, (refl, (refl, (refl, (refl, tt)))))))))))))))))))))))))))))))))))))))))))))))))))))))))))))))))))))))))))),

@@ -9,7 +9,7 @@ use lib.ListN.{getD}
 use lib.IntN.{ℤ, pos, _+ℤ_}
 use lib.Signed.{_≤ℤ_}
 use lib.Dec.{eqb}
-use Rattle.deck.specs.Lists.{below, all, select, each, inOrder, headOf, sum}
+use Rattle.deck.specs.Lists.{_at_, below, all, select, each, inOrder, headOf, sum}
 use Rattle.deck.specs.Sheet.{Sheet, carrier, task}
 use Rattle.deck.specs.Paths.{leastPath, finishOf}
 use Rattle.deck.specs.declared.Task.{Task}
@@ -61,7 +61,7 @@ pub record Priced (m : ℕ) (table tasks : List ℕ) (rows columns : List ℤ) :
   pub feasible : (i j : ℕ) → i < m → j < m → entryAt m table i j ≢ barred
       → (getD rows i (pos 0) +ℤ getD columns j (pos 0)) ≤ℤ pos (entryAt m table i j)
   pub tight : (i : ℕ) → i < m
-      → (getD rows i (pos 0) +ℤ getD columns (getD tasks i 0) (pos 0)) ≡ pos (entryAt m table i (getD tasks i 0))
+      → (getD rows i (pos 0) +ℤ getD columns (tasks at i) (pos 0)) ≡ pos (entryAt m table i (tasks at i))
   pub below : (j : ℕ) → j < m → getD columns j (pos 0) ≤ℤ pos 0
 
 unfoldable pub entryOf : Sheet → Task → Option (List ℕ) → ℕ

@@ -3,16 +3,15 @@ use Prim.Native.Nat.{ℕ, suc}
 use mathlib.Core.Bool.{Bool, _&&_, not, cond}
 use mathlib.Core.List.{List, [], _++_, map}
 use mathlib.Core.Option.{Option}
-use lib.ListN.{getD}
 use lib.Dec.{ltb, eqb}
-use Rattle.deck.specs.Lists.{below, select, each, headOf}
+use Rattle.deck.specs.Lists.{_at_, pathOf, below, select, each, headOf}
 use Rattle.deck.specs.Sheet.{carrier}
 use Rattle.deck.specs.declared.Collision.{Collision}
 use Rattle.deck.specs.declared.Collision.the-variants.{Place, Move}
 
 -- the place of carrier i at t
 abbrev pub placeAt : List (List ℕ) → ℕ → ℕ → ℕ
-placeAt ps i t = getD (getD ps i []) t 0
+placeAt ps i t = pathOf ps i at t
 
 -- the pairs i < j of carriers below m, by i, then by j
 unfoldable pub pairs : ℕ → List (ℕ × ℕ)

@@ -4,9 +4,9 @@ use Prim.Native.Char.{code}
 use Prim.Native.String.{String, len, charAt}
 use mathlib.Core.Bool.{cond}
 use mathlib.Core.List.{List, [], _∷_, _++_}
-use lib.ListN.{getD, replicate}
+use lib.ListN.{replicate}
 use lib.Dec.{ltb}
-use Rattle.deck.specs.Lists.{below, each, pieces}
+use Rattle.deck.specs.Lists.{_at_, pathOf, below, each, pieces}
 use Rattle.deck.specs.Sheet.{Sheet, read, task}
 use Rattle.deck.specs.Paths.{finishOf}
 use Rattle.deck.specs.Calls.{searchAnswer, searchOutput}
@@ -48,7 +48,7 @@ carrierLine d i j p =
 
 -- the lines of a plan, of its task list and its paths
 unfoldable pub carrierLines : Sheet → List ℕ → List (List ℕ) → List ℕ
-carrierLines d tasks ps = each (λ i. carrierLine d i (getD tasks i 255) (getD ps i [])) (below (d .count))
+carrierLines d tasks ps = each (λ i. carrierLine d i (tasks at i) (pathOf ps i)) (below (d .count))
 
 -- of the answer, and of the words of output
 unfoldable pub listingFor : Sheet → SearchKind → SearchAnswer → List ℕ → List ℕ

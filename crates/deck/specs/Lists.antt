@@ -3,8 +3,17 @@ use Prim.Native.Nat.{ℕ, zero, suc, _+_}
 use mathlib.Core.Bool.{Bool, true, false, cond, _&&_, _||_, not}
 use mathlib.Core.List.{List, [], _∷_, _++_}
 use mathlib.Core.Option.{Option, none, some}
-use lib.ListN.{length, take, drop}
+use lib.ListN.{length, getD, take, drop}
 use lib.Dec.{eqb, leb}
+
+infixl 80 _at_
+-- the number at an index, 0 past the end: of a path, the place at a time; of a task list, the task of a carrier
+abbrev pub _at_ : List ℕ → ℕ → ℕ
+l at k = getD l k 0
+
+-- of the carriers' paths, that of carrier i
+abbrev pub pathOf : List (List ℕ) → ℕ → List ℕ
+pathOf ps i = getD ps i []
 
 -- k, k + 1, .., k + n - 1
 abbrev pub countFrom : ℕ → ℕ → List ℕ

@@ -3,9 +3,8 @@ use Prim.Native.Nat.{ℕ, zero, suc, _/_, _%_}
 use mathlib.Core.Bool.{Bool, _&&_, _||_, not, cond}
 use mathlib.Core.List.{List, [], _∷_, map}
 use mathlib.Core.Option.{Option, none, some}
-use lib.ListN.{getD}
 use lib.Dec.{leb, eqb}
-use Rattle.deck.specs.Lists.{below, all, select, each, takeLeast, isNil}
+use Rattle.deck.specs.Lists.{_at_, below, all, select, each, takeLeast, isNil}
 use Rattle.deck.specs.Sheet.{Sheet, area, free, startOf, goalsOf, lastGoal}
 use Rattle.deck.specs.declared.Carrier.{Carrier}
 use Rattle.deck.specs.declared.Task.{Task}
@@ -62,8 +61,8 @@ serves d j p = isNil (left p (goalsOf d j)) && leb (finishOf d j p) (d .horizon)
 
 -- p, a path of the carrier i, keeps the constraint. A constraint of another carrier is kept; t is any time, after the finish too
 unfoldable pub keeps : Carrier → List ℕ → Constraint → Bool
-keeps i p (Place a u t) = not (eqb (a .0) (i .0) && eqb (getD p t 0) u)
-keeps i p (Move a u v t) = not (eqb (a .0) (i .0) && eqb (getD p t 0) u && eqb (getD p (suc t) 0) v)
+keeps i p (Place a u t) = not (eqb (a .0) (i .0) && eqb (p at t) u)
+keeps i p (Move a u v t) = not (eqb (a .0) (i .0) && eqb (p at t) u && eqb (p at (suc t)) v)
 
 -- the paths of the carrier for the task that keep the constraints, in order
 unfoldable pub pathsUnder : Sheet → Carrier → Task → List Constraint → List (List ℕ)

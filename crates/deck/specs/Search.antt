@@ -6,7 +6,7 @@ use mathlib.Core.List.{List, [], _∷_, _++_, map}
 use mathlib.Core.Option.{Option, none, some}
 use lib.ListN.{length, getD, set}
 use lib.Dec.{leb}
-use Rattle.deck.specs.Lists.{below, sum, takeLeast}
+use Rattle.deck.specs.Lists.{_at_, below, sum, takeLeast}
 
 -- What the search is given
 pub record Problem (Path Constraint : Type 0) : Type 0 where
@@ -57,7 +57,7 @@ pub data Turn (Path Constraint : Type 0) : Type 0 where
 
 module _ {Path Constraint : Type 0} (w : Problem Path Constraint) where
   abbrev pub taskOf : List ℕ → ℕ → ℕ
-  taskOf a i = getD a i 0
+  taskOf a i = a at i
 
   abbrev pub pathAt : List Path → ℕ → Path
   pathAt ps i = getD ps i (w .noPath)

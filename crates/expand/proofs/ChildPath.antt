@@ -26,9 +26,10 @@ use Rattle.deck.proofs.PathAnswer.{the-type as the-answer}
 use Rattle.deck.specs.declared.Constraint.{Constraint}
 use Rattle.deck.specs.declared.Constraint.the-variants.{Place, Move}
 use Rattle.meaning.proofs.Lists.{mem-select}
-use Rattle.meaning.proofs.Limit.{added, addIf, makeWith, makeChild}
+use Rattle.meaning.specs.Making.{added, addIf, makeWith, makeChild}
 use Rattle.optimal.specs.Plans.{Fits as AllFit, IsLeast}
-use Rattle.optimal.proofs.Deck.{Fit, rules, laws}
+use Rattle.optimal.specs.Deck.{Fit, rules}
+use Rattle.optimal.proofs.Deck.{laws}
 use Rattle.sheet.proofs.Accepted.{limit-range, count-range, horizon-range}
 use Rattle.kernel.specs.Kernel.{NoEarlier}
 use Rattle.passes.specs.Ready.{Ready}
@@ -143,7 +144,7 @@ module _ {s mask work bounds : List ℕ} {made latest n : ℕ} {i : Carrier} {c 
     where
       all-fit : AllFit (problem d) (rules d) (c ∷ nodeAt d work n .constraints)
       all-fit k (here e) = rw e (good-fit d c (x .good))
-      all-fit k (there u) = x .ordered .fits k u
+      all-fit k (there u) = x .node .fits k u
 
   module _ (rs : List ℕ) (e : rs ≡ each wordsOf own) (j : Task) (je : j ≡ task (getD (tasksIn (fieldsAt work n)) (i .0) 0)) where
     task-is : j ≡ childTask d work n c
@@ -151,7 +152,7 @@ module _ {s mask work bounds : List ℕ} {made latest n : ℕ} {i : Carrier} {c 
 
     task-in : j .0 < countOf s
     unfolding problem
-    task-in = rw task-is (x .ordered .assigned .tasks (boundBy c) (good-bound d c (x .good)))
+    task-in = rw task-is (x .node .assigned .tasks (boundBy c) (good-bound d c (x .good)))
 
     pub child-ready : Ready s i j mask rs
     child-ready = record {
@@ -183,7 +184,7 @@ module _ {s mask work bounds : List ℕ} {made latest n : ℕ} {i : Carrier} {c 
     child-later bound be p q =
         let under = child-under p (sym child-least ∙ q) in
         let later : finishOf d (task own-task) (pathAt (problem d) (nodeAt d work n .paths) (boundBy c)) ≤ finishOf d (task own-task) p =
-        x .ordered .least (boundBy c) (good-bound d c (x .good)) .1 p (under .0 .0, λ k u. under .0 .1 k (there u)) in
+        x .node .least (boundBy c) (good-bound d c (x .good)) .1 p (under .0 .0, λ k u. under .0 .1 k (there u)) in
         rw (be ∙ finish-read d work n (d .limit) made fits stored (x .below) record-room (i .0) carrier-in, ← x .bound, task-is) later
 
 -- WHAT THE ANSWER SAYS of the path

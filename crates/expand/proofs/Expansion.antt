@@ -12,11 +12,11 @@ use Rattle.deck.specs.Search.{Problem, Node, State, Answer, Turn, done, more, s
 use Rattle.deck.specs.Planner.{problem, boundBy}
 use Rattle.deck.specs.declared.Carrier.{Carrier}
 use Rattle.deck.specs.declared.Constraint.{Constraint}
-use Rattle.meaning.proofs.Limit.{andThen, addIf, makeRoot, makeWith, makeChild, makeEach}
+use Rattle.meaning.specs.Making.{andThen, addIf, makeRoot, makeWith, makeChild, makeEach}
 use Rattle.nodes.specs.Nodes.{nodeAt}
 use Rattle.nodes.specs.Stored.{Good}
 use Rattle.expand.specs.Children.{Branch}
-use Rattle.expand.specs.Held.{Given, Held, Holding, Same, Grew, Ordered, Nodes}
+use Rattle.expand.specs.Held.{Given, Held, Holding, Same, Grew, NodeAt, Nodes}
 use Rattle.expand.specs.declared.Grown.{Grown}
 use Rattle.expand.specs.declared.Grown.the-variants.{Made, Spent}
 
@@ -105,7 +105,7 @@ pub same-on : {d : Sheet} {work first second : List ℕ} {made k : ℕ} → made
 same-on m p q = record { nodes = λ j h. q .nodes j (omega arith) ∙ p .nodes j h; keys = λ j h. q .keys j (omega arith) ∙ p .keys j h }
 
 -- THE CHILDREN: what each is made of, the first after the root, the second after the first
-pub first-branch : {s mask table work bounds after : List ℕ} {made latest k l n : ℕ} {i : Carrier} {c : Constraint} {r : Grown} → Given s mask table work bounds → n < made → Holding (read s) work made latest → Ordered (read s) work n
+pub first-branch : {s mask table work bounds after : List ℕ} {made latest k l n : ℕ} {i : Carrier} {c : Constraint} {r : Grown} → Given s mask table work bounds → n < made → Holding (read s) work made latest → NodeAt (read s) work n
     → r ≡ Made k l → RootStep (read s) work after made latest n r → Same (read s) work after made → length after ≡ length work → boundBy c ≡ i .0 → Good (read s) c → Branch s mask after bounds k l n i c
 first-branch {n = n} given b h o e step same long bound good =
     let g = root-held h e n step in
@@ -115,7 +115,7 @@ first-branch {n = n} given b h o e step same long bound good =
       room = rw long (given .room);
       held = g .0;
       below = omega (arith, g .1);
-      ordered = rw (same .nodes n b) o;
+      node = rw (same .nodes n b) o;
       bound = bound;
       good = good;
       bounded = given .bounded;
@@ -131,7 +131,7 @@ second-branch {n = n} {c = c} x e step same long bound good =
       room = rw long (x .room);
       held = g .0;
       below = omega (arith, x .below, g .1);
-      ordered = rw (same .nodes n (x .below)) (x .ordered);
+      node = rw (same .nodes n (x .below)) (x .node);
       bound = bound;
       good = good;
       bounded = x .bounded;

@@ -15,7 +15,7 @@ use Rattle.deck.specs.Search.{State, Turn, rootOf, restAfter}
 use Rattle.deck.specs.Planner.{problem}
 use Rattle.deck.specs.declared.Constraint.{Constraint}
 use Rattle.meaning.specs.Meaning.{_at_, Assignment}
-use Rattle.meaning.proofs.Limit.{added, makeRoot}
+use Rattle.meaning.specs.Making.{added, makeRoot}
 use Rattle.prices.specs.Square.{copied}
 use Rattle.prices.proofs.Growth.{lower}
 use Rattle.partition.specs.Parts.{Slot}

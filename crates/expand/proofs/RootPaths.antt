@@ -22,7 +22,7 @@ use Rattle.deck.specs.declared.PathAnswer.{PathAnswer}
 use Rattle.deck.specs.declared.PathAnswer.the-variants.{Found}
 use Rattle.meaning.specs.Meaning.{_at_}
 use Rattle.meaning.proofs.Assignments.{table-at}
-use Rattle.meaning.proofs.Limit.{added}
+use Rattle.meaning.specs.Making.{added}
 use Rattle.meaning.proofs.LeastPath.{LeastMeant, least-path-meant}
 use Rattle.prices.specs.Square.{cell}
 use Rattle.prices.proofs.Squares.{square-at}
@@ -32,8 +32,8 @@ use Rattle.passes.specs.Ready.{Ready}
 use Rattle.pack.specs.Pack.{packOf}
 use Rattle.records.specs.Record.{fieldsAt, tasksIn, keyAt, withPath, Wrote}
 use Rattle.records.proofs.Frames.{fields-front}
-use Rattle.nodes.specs.Stored.{Fits, Stored, Added, RootSoFar}
-use Rattle.nodes.proofs.Kept.{Alike, alike-same, kept-stored, kept-nodes, kept-opened, front-alike, front-keys}
+use Rattle.nodes.specs.Stored.{Fits, Stored, Added, RootSoFar, NodeAlike}
+use Rattle.nodes.proofs.Kept.{alike-same, kept-stored, kept-nodes, kept-opened, front-alike, front-keys}
 use Rattle.nodes.proofs.Makes.{root-same, root-more}
 use Rattle.nodes.proofs.Grid.{least-walk, walk-long}
 use Rattle.nodes.proofs.Readers.{accepted-fits}
@@ -72,7 +72,7 @@ same-then d a b c made p q = record { nodes = λ k h. q .nodes k h ∙ p .nodes 
 -- WHAT A STEP LEAVES of a root that is begun
 module _ {d : Sheet} {work : List ℕ} (mid : List ℕ) {n : ℕ} {a : List ℕ} {i : ℕ} {st : State (List ℕ) Constraint} (l : d .limit ≤ 4096) (front : Front (d .limit) work mid)
     (B : Begun d work n a i st) where
-  front-alikes : (k : ℕ) → k < n → Alike (fieldsAt mid k) (fieldsAt work k)
+  front-alikes : (k : ℕ) → k < n → NodeAlike (fieldsAt mid k) (fieldsAt work k)
   front-alikes = front-alike work mid (d .limit) n (omega (arith, B .within)) l front
 
   front-keep : (k : ℕ) → k < n → keyAt (d .limit) mid k ≡ keyAt (d .limit) work k
@@ -96,7 +96,7 @@ module _ {d : Sheet} {work : List ℕ} (mid : List ℕ) {n : ℕ} {a : List ℕ}
 
 module _ {d : Sheet} {mid after : List ℕ} {n : ℕ} {a : List ℕ} {i : ℕ} {st : State (List ℕ) Constraint} (B : Begun d mid n a i st) (finish : ℕ) (p : List ℕ)
     (u : Wrote mid after n (withPath (fieldsAt mid n) i finish (packOf (d .width) (d .horizon) p))) where
-  path-alikes : (k : ℕ) → k < n → Alike (fieldsAt after k) (fieldsAt mid k)
+  path-alikes : (k : ℕ) → k < n → NodeAlike (fieldsAt after k) (fieldsAt mid k)
   path-alikes k h = alike-same (fieldsAt after k) (fieldsAt mid k) (u .records k (λ e. omega arith))
 
   path-keep : (k : ℕ) → k < n → keyAt (d .limit) after k ≡ keyAt (d .limit) mid k

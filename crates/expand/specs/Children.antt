@@ -17,7 +17,7 @@ use Rattle.bars.specs.Padded.{MaskOf}
 use Rattle.nodes.specs.Nodes.{nodeAt}
 use Rattle.nodes.specs.Stored.{Good}
 use Rattle.scratch.specs.Bounded.{Bounded}
-use Rattle.expand.specs.Held.{Holding, Ordered}
+use Rattle.expand.specs.Held.{Holding, NodeAt}
 
 -- of an accepted sheet with its mask, a workspace with room and the lower bounds of its tasks: node n is held and its paths are
 -- least, and c is a constraint of the sheet that binds carrier i
@@ -27,7 +27,7 @@ pub record Branch (s mask work bounds : List ℕ) (made latest n : ℕ) (i : Car
   pub room : workspaceFor (read s) ≤ length work
   pub held : Holding (read s) work made latest
   pub below : n < made
-  pub ordered : Ordered (read s) work n
+  pub node : NodeAt (read s) work n
   pub bound : boundBy c ≡ i .0
   pub good : Good (read s) c
   pub bounded : Bounded (read s) bounds

@@ -16,8 +16,8 @@ use Rattle.records.specs.Record.{keyAt}
 use Rattle.nodes.specs.Nodes.{nodeAt, openedAt}
 use Rattle.nodes.specs.Stored.{Stored, RootSoFar}
 use Rattle.roots.specs.Tournament.{SlotsHold}
-use Rattle.optimal.proofs.Deck.{rules}
-use Rattle.optimal.proofs.Nodes.{InOrder}
+use Rattle.optimal.specs.Nodes.{IsNode}
+use Rattle.optimal.specs.Deck.{rules}
 use Rattle.scratch.specs.Bounded.{Bounded}
 use Rattle.expand.specs.declared.Grown.{Grown}
 use Rattle.expand.specs.declared.Grown.the-variants.{Made, Spent}
@@ -68,6 +68,6 @@ abbrev pub Grew : Sheet → List ℕ → ℕ → Grown → Turn (List ℕ) Const
 Grew d work bound (Made made latest) t = (st : State (List ℕ) Constraint) × (t ≡ more st) × Held d work made latest st
 Grew d work bound Spent t = t ≡ done (spent (d .limit) bound)
 
--- the paths of node n are the least under its constraints
-abbrev pub Ordered : Sheet → List ℕ → ℕ → Type 0
-Ordered d work n = InOrder (problem d) (rules d) (nodeAt d work n)
+-- node n is one of the search: its paths are the least under its constraints
+abbrev pub NodeAt : Sheet → List ℕ → ℕ → Type 0
+NodeAt d work n = IsNode (problem d) (rules d) (nodeAt d work n)

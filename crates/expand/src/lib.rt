@@ -13,13 +13,13 @@ ghost use Rattle.deck.specs.Search.{State, rootOf, restAfter};
 ghost use Rattle.deck.specs.Planner.{problem, boundBy};
 ghost use Rattle.deck.specs.Calls.{pathFound, pathWritten};
 ghost use Rattle.deck.specs.declared.Constraint.{Constraint};
-ghost use Rattle.meaning.proofs.Limit.{added, makeRoot, makeChild, makeEach};
+ghost use Rattle.meaning.specs.Making.{added, makeRoot, makeChild, makeEach};
 ghost use Rattle.records.specs.Record.{wordsOf, Small};
 ghost use Rattle.nodes.specs.Nodes.{nodeAt, constraintsAt, binds};
 ghost use Rattle.nodes.specs.Stored.{Good, Linked};
 ghost use Rattle.expand.specs.Children.{Branch, childTask, childPath};
 ghost use Rattle.scratch.specs.Front.{Front};
-ghost use Rattle.expand.specs.Held.{Given, Held, Holding, Begun, Same, Grew, Ordered, Nodes};
+ghost use Rattle.expand.specs.Held.{Given, Held, Holding, Begun, Same, Grew, NodeAt, Nodes};
 
 // How many nodes are made after a step, and the link to the latest root; or a node was to be made and none is left.
 pub enum Grown {
@@ -250,7 +250,7 @@ pub fn expand(
     bounds: &[u8],
 ) -> Grown
     requires { ⌜ Given (now s) (now mask) (now t) (now work) (now bounds) × (n < made) × (length (now list) ≡ 20480) × Holding (read (now s)) (now work) made latest ⌝ }
-    requires { ⌜ Ordered (read (now s)) (now work) n × (boundBy (first .constraint) ≡ first .carrier .0) × Good (read (now s)) (first .constraint) × (boundBy (second .constraint) ≡ second .carrier .0) × Good (read (now s)) (second .constraint) ⌝ }
+    requires { ⌜ NodeAt (read (now s)) (now work) n × (boundBy (first .constraint) ≡ first .carrier .0) × Good (read (now s)) (first .constraint) × (boundBy (second .constraint) ≡ second .carrier .0) × Good (read (now s)) (second .constraint) ⌝ }
     ensures grew { λ r. ⌜ ((opened : Nodes) (rest : List (List ℕ)) (bound : ℕ) → Held (read (now (s .entry))) (now (work .entry)) made latest (record { opened = opened; made = made; rest = rest }) → Grew (read (now (s .entry))) (now (work .exit)) bound r (makeEach (problem (read (now (s .entry)))) (read (now (s .entry)) .limit) bound (nodeAt (read (now (s .entry))) (now (work .entry)) n) (first .constraint, second .constraint) rest (record { opened = opened; made = made; rest = restAfter (problem (read (now (s .entry)))) (nodeAt (read (now (s .entry))) (now (work .entry)) n .root) rest }))) ⌝ }
     ensures same { λ _. ⌜ Same (read (now (s .entry))) (now (work .entry)) (now (work .exit)) made ⌝ }
 {

@@ -7,7 +7,7 @@ use mathlib.Core.List.{List, [], _∷_, List·Memᴰ as Mem, List·Memᴰ·head 
 use native.Mathlib.Omega.{arith}
 use lib.Dec.{T, ltb}
 use borrow.Author.Tests.{ltb-true, ltb-false}
-use Rattle.meaning.proofs.Lists.{Sorted}
+use Rattle.meaning.specs.Sorted.{Sorted}
 use Rattle.kernel.specs.Layers.{best, firstOf, lift}
 
 pub lt-or-ge : (a b : ℕ) → (a < b) ⊎ (b ≤ a)

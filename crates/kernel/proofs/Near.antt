@@ -9,7 +9,7 @@ use native.Mathlib.Omega.{arith}
 use lib.Dec.{T, leb, ltb, leb→le, le→leb, ltb→lt, lt→ltb}
 use Rattle.deck.specs.Sheet.{Sheet, area}
 use Rattle.meaning.specs.Meaning.{OneApart, NextTo}
-use Rattle.meaning.proofs.Lists.{Sorted}
+use Rattle.meaning.specs.Sorted.{Sorted}
 use Rattle.kernel.specs.Near.{consIf, hasAbove, hasLeft, hasRight, hasBelow, near}
 
 pub in-first : (b : Bool) (x : ℕ) (l : List ℕ) → T b → Mem x (consIf b x l)

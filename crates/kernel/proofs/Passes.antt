@@ -7,7 +7,7 @@ use native.Mathlib.Nat.{not-suc-le-zero}
 use native.Mathlib.Omega.{arith}
 use lib.Dec.{T, eqb, eqb→eq, eqb-refl}
 use Rattle.kernel.proofs.Both.{and-left}
-use Rattle.meaning.proofs.Lists.{Sorted}
+use Rattle.meaning.specs.Sorted.{Sorted}
 use Rattle.kernel.specs.Layers.{Parts, pass, lift, front, back}
 use Rattle.kernel.proofs.Choice.{best-some, best-all, lift-mono}
 

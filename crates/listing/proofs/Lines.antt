@@ -10,7 +10,7 @@ use lib.ListN.{length, take, drop, getD, drop-of-length-le, length-drop}
 use lib.Dec.{leb}
 use lib.Seq.{take-all}
 use borrow.Author.Tests.{leb-true, leb-false}
-use Rattle.deck.specs.Lists.{countFrom, below, each, pieces}
+use Rattle.deck.specs.Lists.{pathOf, countFrom, below, each, pieces}
 use Rattle.deck.specs.Sheet.{Sheet, task}
 use Rattle.deck.specs.Paths.{finishOf}
 use Rattle.deck.specs.Listing.{decimal, text, spaced, carrierLine, carrierLines}
@@ -76,12 +76,6 @@ each-last f k (suc n) =
 lines-more : (f : ℕ → List ℕ) (n : ℕ) → each f (below (suc n)) ≡ each f (below n) ++ f n
 lines-more f n = each-last f 0 n ∙ ap (λ (x : ℕ). each f (below n) ++ f x) (zero-add n)
 
--- an element that is there, whatever stands for a missing one
-at-any : (l : List ℕ) (i a b : ℕ) → i < length l → getD l i a ≡ getD l i b
-at-any [] i a b h = absurd (not-suc-le-zero h)
-at-any (x ∷ l) zero a b h = refl
-at-any (x ∷ l) (suc i) a b h = at-any l i a b (omega arith)
-
 -- the line of a carrier; f is the finish as it was worked out
 pub line-is : (d : Sheet) (i j f : ℕ) (p : List ℕ) {b : List ℕ} {at : ℕ} {c : List ℕ} {r : ℕ} → f ≡ finishOf d (task j) p
     → Wrote b at (text "carrier " ++ decimal i ++ text " task " ++ decimal j ++ text " finish " ++ decimal f ++ text ": " ++ spaced p ++ text "\n") c r
@@ -92,16 +86,15 @@ line-is d i j f p q w = rw (← q) w
 -- the lines of the carriers, by their tasks and the words of their paths
 module _ (d : Sheet) (tasks : List ℕ) (m h : ℕ) (paths : List ℕ) where
   abbrev pub lineAt : ℕ → List ℕ
-  lineAt i = carrierLine d i (getD tasks i 255) (getD (pieces m (suc h) paths) i [])
+  lineAt i = carrierLine d i (getD tasks i 0) (pathOf (pieces m (suc h) paths) i)
 
   -- one carrier more
-  pub line-more : (i n j : ℕ) (p : List ℕ) {b : List ℕ} {at : ℕ} {c : List ℕ} {r : ℕ} {e : List ℕ} {o : ℕ} → n ≡ suc h → i < m → i < length tasks → at ≤ length b
+  pub line-more : (i n j : ℕ) (p : List ℕ) {b : List ℕ} {at : ℕ} {c : List ℕ} {r : ℕ} {e : List ℕ} {o : ℕ} → n ≡ suc h → i < m → at ≤ length b
       → j ≡ getD tasks i 0 → p ≡ take n (drop (i * n) paths) → Wrote b at (each lineAt (below i)) c r → Wrote c r (carrierLine d i j p) e o
       → Wrote b at (each lineAt (below (i + 1))) e o
-  line-more i n j p {b} {at} {c} {r} {e} {o} z l g k q u v w =
-      let f : j ≡ getD tasks i 255 = q ∙ at-any tasks i 0 255 g in
-      let y : p ≡ getD (pieces m (suc h) paths) i [] = u ∙ ap (λ x. take x (drop (i * x) paths)) z ∙ sym (piece-at m (suc h) paths i l) in
-      let t : Wrote c r (lineAt i) e o = subst (λ (x : List ℕ). Wrote c r x e o) (ap₂ (carrierLine d i) f y) w in
+  line-more i n j p {b} {at} {c} {r} {e} {o} z l k q u v w =
+      let y : p ≡ pathOf (pieces m (suc h) paths) i = u ∙ ap (λ x. take x (drop (i * x) paths)) z ∙ sym (piece-at m (suc h) paths i l) in
+      let t : Wrote c r (lineAt i) e o = subst (λ (x : List ℕ). Wrote c r x e o) (ap₂ (carrierLine d i) q y) w in
       rw (add-one i, lines-more lineAt i) (wrote-then k v t)
 
   pub lines-all : (i : ℕ) {b : List ℕ} {at : ℕ} {c : List ℕ} {r : ℕ} → i ≤ m → m ≤ i → m ≡ d .count → Wrote b at (each lineAt (below i)) c r

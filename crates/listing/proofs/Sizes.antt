@@ -1,21 +1,22 @@
 -- A buffer of 20480 bytes holds the listing of every answer whole, whatever the words of its output are. Assumes nothing.
 use Prim.Native.Nat.{ℕ, zero, suc, _+_, _*_, _/_, _%_, _^_, _≤_, _<_}
 use mathlib.Core.Path.{_≡_, refl}
-use mathlib.Core.Bool.{Bool, true, false, cond}
+use mathlib.Core.Bool.{Bool, true, false}
 use mathlib.Core.List.{List, [], _∷_}
 use native.Mathlib.Nat.{pow-suc, suc-mul}
 use native.Mathlib.Omega.{arith}
-use lib.Dec.{ltb, eqb}
+use lib.Dec.{ltb}
 use lib.ListN.{length, getD, take, drop, length-append, length-take}
 use lib.Seq.{getD-drop}
 use borrow.Author.Tests.{ltb-true, ltb-false}
-use Rattle.deck.specs.Lists.{countFrom, below, each, all, pieces}
-use Rattle.deck.specs.Sheet.{Sheet, read, cause, countOf, horizonOf, task, lastGoal}
-use Rattle.deck.specs.Paths.{finish, finishOf}
+use Rattle.deck.specs.Lists.{pathOf, countFrom, each, pieces}
+use Rattle.deck.specs.Sheet.{Sheet, read, cause, countOf, horizonOf, task}
+use Rattle.deck.specs.Paths.{finishOf}
 use Rattle.deck.specs.Listing.{decimal, text, textFrom, spaced, carrierLine, carrierLines, listingFor}
 use Rattle.deck.specs.declared.SearchKind.{SearchKind}
 use Rattle.deck.specs.declared.SearchKind.the-variants.{Plan, NoPlan, Spent, Refused}
 use Rattle.deck.specs.declared.SearchAnswer.{SearchAnswer}
+use Rattle.meaning.proofs.Finish.{finish-most}
 use Rattle.meaning.proofs.Accepted.{accepted-horizon}
 use Rattle.sheet.proofs.Accepted.{count-range}
 use Rattle.collision_scan.proofs.Words.{piece-at}
@@ -44,15 +45,6 @@ spaced-size (x ∷ y ∷ l) h =
     let r = spaced-size (y ∷ l) (λ k. h (suc k)) in
     simp length-append (omega (arith, decimal-size 4 x (omega (arith, h 0))))
 
-finish-size : (g : ℕ) (p : List ℕ) → finish g p ≤ length p
-unfolding finish
-finish-size g [] = omega arith
-finish-size g (x ∷ p) = go (all (eqb g) (x ∷ p)) (finish-size g p)
-  where
-    go : (t : Bool) → finish g p ≤ length p → cond t 0 (suc (finish g p)) ≤ suc (length p)
-    go true r = omega arith
-    go false r = omega arith
-
 take-words : (n : ℕ) (l : List ℕ) → Words l → Words (take n l)
 take-words zero l h k = omega arith
 take-words (suc n) [] h k = omega arith
@@ -65,7 +57,7 @@ drop-words n l h k = rw (getD-drop n l k 0) (h (n + k))
 line-size : (d : Sheet) (i j : ℕ) (p : List ℕ) → i < 12 → j < 256 → length p ≤ 256 → Words p → length (carrierLine d i j p) ≤ 1569
 unfolding carrierLine text textFrom
 line-size d i j p hi hj hp h =
-    let f : finishOf d (task j) p ≤ length p = finish-size (lastGoal d (task j)) p in
+    let f : finishOf d (task j) p ≤ length p = finish-most d (task j) p in
     simp length-append (omega (arith, decimal-size 1 i (omega arith), decimal-size 2 j (omega arith), decimal-size 2 (finishOf d (task j) p) (omega arith), spaced-size p h))
 
 each-size : (f : ℕ → List ℕ) (size k n : ℕ) → ((i : ℕ) → i < k + n → length (f i) ≤ size) → length (each f (countFrom k n)) ≤ n * size
@@ -73,12 +65,6 @@ each-size f size k zero h = omega arith
 each-size f size k (suc n) h =
     let r = each-size f size (suc k) n (λ i l. h i (omega arith)) in
     simp length-append (omega (arith, h k (omega arith), suc-mul n size))
-
--- a byte that is there, or the 255 that stands for a missing one
-pub byte-or : (l : List ℕ) → ((i : ℕ) → getD l i 0 < 256) → (i : ℕ) → getD l i 255 < 256
-byte-or [] h i = omega arith
-byte-or (x ∷ l) h zero = h 0
-byte-or (x ∷ l) h (suc i) = byte-or l (λ k. h (suc k)) i
 
 abbrev pub SmallCause : SearchKind → Type 0
 SmallCause Plan = Unit {0}
@@ -91,20 +77,20 @@ pub record Fits (k : SearchKind) (a : SearchAnswer) : Type 0 where
   pub flowtime : a .flowtime < 2 ^ 64
   pub nodes : a .nodes < 2 ^ 64
   pub bound : a .bound < 2 ^ 64
-  pub tasks : (i : ℕ) → getD (a .tasks) i 255 < 256
+  pub tasks : (i : ℕ) → getD (a .tasks) i 0 < 256
   pub cause : SmallCause k
 
 module _ (s : List ℕ) (a : SearchAnswer) (out : List ℕ) (p : Words out) where
-  lines-size : cause s ≡ 0 → ((i : ℕ) → getD (a .tasks) i 255 < 256) → length (carrierLines (read s) (a .tasks) (pieces (countOf s) (suc (horizonOf s)) out)) ≤ 12 * 1569
+  lines-size : cause s ≡ 0 → ((i : ℕ) → getD (a .tasks) i 0 < 256) → length (carrierLines (read s) (a .tasks) (pieces (countOf s) (suc (horizonOf s)) out)) ≤ 12 * 1569
   unfolding carrierLines
   lines-size ok t =
-      let r : length (carrierLines (read s) (a .tasks) (pieces (countOf s) (suc (horizonOf s)) out)) ≤ countOf s * 1569 = each-size (λ i. carrierLine (read s) i (getD (a .tasks) i 255) (getD (pieces (countOf s) (suc (horizonOf s)) out) i [])) 1569 0 (countOf s) line in
+      let r : length (carrierLines (read s) (a .tasks) (pieces (countOf s) (suc (horizonOf s)) out)) ≤ countOf s * 1569 = each-size (λ i. carrierLine (read s) i (getD (a .tasks) i 0) (pathOf (pieces (countOf s) (suc (horizonOf s)) out) i)) 1569 0 (countOf s) line in
       omega (arith, count-range s ok)
     where
-      line : (i : ℕ) → i < 0 + countOf s → length (carrierLine (read s) i (getD (a .tasks) i 255) (getD (pieces (countOf s) (suc (horizonOf s)) out) i [])) ≤ 1569
+      line : (i : ℕ) → i < 0 + countOf s → length (carrierLine (read s) i (getD (a .tasks) i 0) (pathOf (pieces (countOf s) (suc (horizonOf s)) out) i)) ≤ 1569
       line i l =
           rw (piece-at (countOf s) (suc (horizonOf s)) out i (omega arith))
-          (line-size (read s) i (getD (a .tasks) i 255) (take (suc (horizonOf s)) (drop (i * suc (horizonOf s)) out)) (omega (arith, count-range s ok)) (t i) (simp length-take (omega (arith, accepted-horizon s ok))) (take-words (suc (horizonOf s)) (drop (i * suc (horizonOf s)) out) (drop-words (i * suc (horizonOf s)) out p)))
+          (line-size (read s) i (getD (a .tasks) i 0) (take (suc (horizonOf s)) (drop (i * suc (horizonOf s)) out)) (omega (arith, count-range s ok)) (t i) (simp length-take (omega (arith, accepted-horizon s ok))) (take-words (suc (horizonOf s)) (drop (i * suc (horizonOf s)) out) (drop-words (i * suc (horizonOf s)) out p)))
 
   -- THE SIZE
   pub listing-size : (k : SearchKind) → Listable s k → Fits k a → length (listingFor (read s) k a out) ≤ 20480

@@ -100,10 +100,10 @@ fn put_places(text: &mut [u8], at: usize, path: &[u16]) -> usize
 
 // The line of one carrier: its number, its task, the finish of its path and the places.
 fn put_carrier(s: &[u8], i: Carrier, j: Task, path: &[u16], text: &mut [u8], at: usize) -> usize
-    requires { ⌜ (cause (now s) ≡ 0) × (at ≤ length (now text)) ⌝ }
+    requires { ⌜ at ≤ length (now text) ⌝ }
     ensures { λ r. ⌜ Wrote (now (text .entry)) at (carrierLine (read (now (s .entry))) (i .0) (j .0) (now (path .entry))) (now (text .exit)) r ⌝ }
 {
-    let finish = path_check::finish(path, sheet::last_goal(s, j));
+    let finish = path_check::finish_of(s, j, path);
     let named = put_field(text, at, b"carrier ", i.0);
     let tasked = put_field(text, named, b" task ", j.0);
     let finished = put_field(text, tasked, b" finish ", finish);

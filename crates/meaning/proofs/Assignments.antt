@@ -18,7 +18,8 @@ use Rattle.deck.specs.Paths.{leastPath}
 use Rattle.deck.specs.Assignments.{barred, arrangements, assignments, entryAt, entriesFrom, entries, sumOf, allowed, assignmentsInOrder, leastAssignment, entryOf, tableOf}
 use Rattle.meaning.specs.Meaning.{_at_, Assignment, Unbarred, StrictlyBefore, Less, AllBarred}
 use Rattle.meaning.proofs.Tests.{Says, says-eqb, says-not, says-iff}
-use Rattle.meaning.proofs.Lists.{mem-map, map-mem, mem-each, each-mem, mem-select, select-mem, mem-below, getD-countFrom, length-countFrom, getD-tabulate, Sorted, sorted-select, sorted-map, sorted-countFrom, sorted-each, each-at, Head, head-first}
+use Rattle.meaning.specs.Sorted.{Sorted}
+use Rattle.meaning.proofs.Lists.{mem-map, map-mem, mem-each, each-mem, mem-select, select-mem, mem-below, getD-countFrom, length-countFrom, getD-tabulate, sorted-select, sorted-map, sorted-countFrom, sorted-each, each-at, Head, head-first}
 use Rattle.meaning.proofs.ListTests.{says-all-at}
 use Rattle.meaning.proofs.InOrder.{sorted-once, in-order-mem, in-order-sorted}
 

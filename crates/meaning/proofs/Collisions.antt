@@ -17,7 +17,8 @@ use Rattle.deck.specs.declared.Collision.the-variants.{Place, Move}
 use Rattle.meaning.specs.Meaning.{Before, pathOf, Collides, Collided, rank, FirstCollision}
 use Rattle.meaning.proofs.Tests.{Says, says-eqb, says-leb, says-and, says-not}
 use Rattle.meaning.proofs.Before.{before-refl, before-antisym}
-use Rattle.meaning.proofs.Lists.{nil-of-none, Head, head-first, mem-map, map-mem, mem-each, each-mem, mem-select, select-mem, mem-below, Sorted, sorted-append, sorted-select, sorted-map, sorted-countFrom, sorted-each}
+use Rattle.meaning.specs.Sorted.{Sorted}
+use Rattle.meaning.proofs.Lists.{nil-of-none, Head, head-first, mem-map, map-mem, mem-each, each-mem, mem-select, select-mem, mem-below, sorted-append, sorted-select, sorted-map, sorted-countFrom, sorted-each}
 
 -- a list that stands only if a test passes
 module _ {A : Type 0} where

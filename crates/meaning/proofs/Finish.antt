@@ -9,7 +9,9 @@ use native.Mathlib.Omega.{arith}
 use lib.ListN.{length}
 use lib.Dec.{eqb}
 use Rattle.deck.specs.Lists.{all}
-use Rattle.deck.specs.Paths.{finish}
+use Rattle.deck.specs.Sheet.{Sheet, lastGoal}
+use Rattle.deck.specs.Paths.{finish, finishOf}
+use Rattle.deck.specs.declared.Task.{Task}
 use Rattle.meaning.specs.Meaning.{_at_, Finish}
 use Rattle.meaning.proofs.Tests.{is-true}
 use Rattle.meaning.proofs.ListTests.{says-on}
@@ -36,6 +38,10 @@ finish-least g (x ∷ p) (suc u) a h = go (all (eqb g) (x ∷ p)) (finish-least 
     go : (b : Bool) → finish g p ≤ u → cond b 0 (suc (finish g p)) ≤ suc u
     go true i = zero-le
     go false i = omega arith
+
+-- it is at most the length of the path, whatever the path is
+pub finish-most : (d : Sheet) (j : Task) (p : List ℕ) → finishOf d j p ≤ length p
+finish-most d j p = finish-least (lastGoal d j) p (length p) (omega arith) (λ t a l. absurd (omega arith))
 
 -- a path has one finish
 pub finish-unique : {h g t u : ℕ} {p : List ℕ} → Finish h p g t → Finish h p g u → t ≡ u

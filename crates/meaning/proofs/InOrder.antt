@@ -12,7 +12,8 @@ use lib.ListN.{length, getD}
 use lib.Dec.{leb}
 use borrow.Author.Tests.{leb-true, leb-false}
 use Rattle.deck.specs.Lists.{takeLeast, pickLeast, handOut, firstInOrder, inOrder}
-use Rattle.meaning.proofs.Lists.{Sorted, Took, took}
+use Rattle.meaning.specs.Sorted.{Sorted}
+use Rattle.meaning.proofs.Lists.{Took, took}
 use Rattle.meaning.proofs.ListTests.{mem-at}
 
 module _ {A : Type 0} (R : A → A → Type 0) where

@@ -16,7 +16,8 @@ use Rattle.deck.specs.declared.Task.{Task}
 use Rattle.deck.specs.declared.Constraint.{Constraint}
 use Rattle.meaning.specs.Meaning.{Before, Keeps, PathUnder, LeastPath}
 use Rattle.meaning.proofs.Tests.{Says, says-and}
-use Rattle.meaning.proofs.Lists.{mem-select, select-mem, Sorted, sorted-select, First, take-first}
+use Rattle.meaning.specs.Sorted.{Sorted}
+use Rattle.meaning.proofs.Lists.{mem-select, select-mem, sorted-select, First, take-first}
 use Rattle.meaning.proofs.Before.{before-refl, before-antisym}
 use Rattle.meaning.proofs.Walks.{walks-sorted}
 use Rattle.meaning.proofs.Paths.{path-finish, path-meant, keeps-all-meant}

@@ -11,6 +11,7 @@ pub mod LeastPath
 pub mod Collisions
 pub mod InOrder
 pub mod Assignments
+pub mod Flowtime
 pub mod PlanCheck
 pub mod Fuel
 pub mod Limit

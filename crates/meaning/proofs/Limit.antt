@@ -10,17 +10,13 @@ use native.Mathlib.Omega.{arith}
 use lib.ListN.{length}
 use lib.Dec.{leb, ltb}
 use borrow.Author.Tests.{ltb-true, ltb-false, leb-true, le-leb, lt-leb}
-use Rattle.deck.specs.Search.{Problem, Node, State, Selected, Answer, noPlan, plan, spent, Turn, done, more, rootOf, childNode, taskOf, child, childWith, nextRoot, restAfter, toMake, extend, expand, turnWith, turn, onward, run, searchFrom, searched}
+use Rattle.deck.specs.Search.{Problem, Node, State, Selected, Answer, noPlan, plan, Turn, done, more, rootOf, childNode, taskOf, child, childWith, nextRoot, restAfter, toMake, extend, expand, turnWith, turn, onward, run, searchFrom, searched}
+use Rattle.meaning.specs.Making.{andThen, added, addIf, make, makeRoot, makeWith, makeChild, makeEach}
 
 one-first : (m k : ℕ) → m + 1 + k ≡ m + suc k
 one-first m k = omega arith
 
 module _ {Path Constraint : Type 0} where
-  -- one after the other, where the first does not end the search
-  abbrev pub andThen : Turn Path Constraint → (State Path Constraint → Turn Path Constraint) → Turn Path Constraint
-  andThen (done a) f = done a
-  andThen (more s) f = f s
-
   then-nothing : (t : Turn Path Constraint) → andThen t more ≡ t
   then-nothing (done a) = refl
   then-nothing (more s) = refl
@@ -33,35 +29,23 @@ module _ {Path Constraint : Type 0} where
   then-assoc (done a) f g = refl
   then-assoc (more s) f g = refl
 
-  -- the nodes are made: they are the last of the open ones
-  abbrev pub added : List (Node Path Constraint) → State Path Constraint → State Path Constraint
-  added new s = record { opened = s .opened ++ new; made = s .made + length new; rest = s .rest }
-
   module _ (limit bound : ℕ) where
-    abbrev pub addIf : Bool → List (Node Path Constraint) → State Path Constraint → Turn Path Constraint
-    addIf true new s = more (added new s)
-    addIf false new s = done (spent limit bound)
-
-    -- "Where a node is to be made (a root that remains, a child with a path) and N are made already: spent, with N nodes"
-    abbrev pub make : Node Path Constraint → State Path Constraint → Turn Path Constraint
-    make n s = addIf (ltb (s .made) limit) (n ∷ []) s
-
     abbrev pub makeAll : List (Node Path Constraint) → State Path Constraint → Turn Path Constraint
     makeAll [] s = more s
-    makeAll (n ∷ new) s = andThen (make n s) (makeAll new)
+    makeAll (n ∷ new) s = andThen (make limit bound n s) (makeAll new)
 
-    add-both : (b : Bool) (n : Node Path Constraint) (new : List (Node Path Constraint)) (s : State Path Constraint) → addIf b new (added (n ∷ []) s) ≡ addIf b (n ∷ new) s
+    add-both : (b : Bool) (n : Node Path Constraint) (new : List (Node Path Constraint)) (s : State Path Constraint) → addIf limit bound b new (added (n ∷ []) s) ≡ addIf limit bound b (n ∷ new) s
     add-both true n new s = rw (append-assoc, one-first (s .made) (length new))
     add-both false n new s = refl
 
     -- one at a time comes to all at once
-    pub make-all : (new : List (Node Path Constraint)) (s : State Path Constraint) → s .made ≤ limit → makeAll new s ≡ addIf (leb (s .made + length new) limit) new s
+    pub make-all : (new : List (Node Path Constraint)) (s : State Path Constraint) → s .made ≤ limit → makeAll new s ≡ addIf limit bound (leb (s .made + length new) limit) new s
     make-all [] s le = rw (le-leb (s .made + 0) limit (omega arith), append-nil, add-zero)
     make-all (n ∷ new) s le = go (ltb (s .made) limit) refl (λ t h. make-all new t h)
       where
         go : (b : Bool) → ltb (s .made) limit ≡ b
-            → ((t : State Path Constraint) → t .made ≤ limit → makeAll new t ≡ addIf (leb (t .made + length new) limit) new t)
-            → andThen (addIf b (n ∷ []) s) (makeAll new) ≡ addIf (leb (s .made + suc (length new)) limit) (n ∷ new) s
+            → ((t : State Path Constraint) → t .made ≤ limit → makeAll new t ≡ addIf limit bound (leb (t .made + length new) limit) new t)
+            → andThen (addIf limit bound b (n ∷ []) s) (makeAll new) ≡ addIf limit bound (leb (s .made + suc (length new)) limit) (n ∷ new) s
         go true e again =
             rw (again (added (n ∷ []) s) (omega (arith, ltb-true (s .made) limit e)), one-first (s .made) (length new))
             (add-both (leb (s .made + suc (length new)) limit) n new s)
@@ -70,8 +54,8 @@ module _ {Path Constraint : Type 0} where
     make-append : (l r : List (Node Path Constraint)) (s : State Path Constraint) → andThen (makeAll l s) (makeAll r) ≡ makeAll (l ++ r) s
     make-append [] r s = refl
     make-append (n ∷ l) r s =
-        then-assoc (make n s) (makeAll l) (makeAll r)
-        ∙ then-same (make n s) (λ t. andThen (makeAll l t) (makeAll r)) (makeAll (l ++ r)) (make-append l r)
+        then-assoc (make limit bound n s) (makeAll l) (makeAll r)
+        ∙ then-same (make limit bound n s) (λ t. andThen (makeAll l t) (makeAll r)) (makeAll (l ++ r)) (make-append l r)
 
     -- f makes the nodes of the list
     abbrev Makes : (State Path Constraint → Turn Path Constraint) → List (Node Path Constraint) → Type 0
@@ -81,41 +65,23 @@ module _ {Path Constraint : Type 0} where
     makes-both f g l r h k s = rw (h s) (then-same (makeAll l s) g (makeAll r) k ∙ make-append l r s)
 
 module _ {Path Constraint : Type 0} (w : Problem Path Constraint) (limit bound : ℕ) where
-  -- "if it is a root, make the root of the next assignment, where one remains"
-  abbrev pub makeRoot : Bool → List (List ℕ) → State Path Constraint → Turn Path Constraint
-  makeRoot false rest s = more s
-  makeRoot true [] s = more s
-  makeRoot true (a ∷ rest) s = make limit bound (rootOf w a) s
-
-  -- "A child without a path is not made"
-  abbrev pub makeWith : Node Path Constraint → Constraint → Option Path → State Path Constraint → Turn Path Constraint
-  makeWith n c none s = more s
-  makeWith n c (some p) s = make limit bound (childNode w n c p) s
-
-  abbrev pub makeChild : Node Path Constraint → Constraint → State Path Constraint → Turn Path Constraint
-  makeChild n c = makeWith n c (w .least (w .bound c) (taskOf w (n .tasks) (w .bound c)) (c ∷ n .constraints))
-
-  -- the next root, then i's child, then j's child
-  abbrev pub makeEach : Node Path Constraint → Constraint × Constraint → List (List ℕ) → State Path Constraint → Turn Path Constraint
-  makeEach n sides rest s = andThen (makeRoot (n .root) rest s) (λ t. andThen (makeChild n (sides .0) t) (makeChild n (sides .1)))
-
-  makes-root : (b : Bool) (rest : List (List ℕ)) → Makes limit bound (makeRoot b rest) (nextRoot w b rest)
+  makes-root : (b : Bool) (rest : List (List ℕ)) → Makes limit bound (makeRoot w limit bound b rest) (nextRoot w b rest)
   makes-root false rest s = refl
   makes-root true [] s = refl
   makes-root true (a ∷ rest) s = sym (then-nothing (make limit bound (rootOf w a) s))
 
-  makes-with : (n : Node Path Constraint) (c : Constraint) (o : Option Path) → Makes limit bound (makeWith n c o) (childWith w n c o)
+  makes-with : (n : Node Path Constraint) (c : Constraint) (o : Option Path) → Makes limit bound (makeWith w limit bound n c o) (childWith w n c o)
   makes-with n c none s = refl
   makes-with n c (some p) s = sym (then-nothing (make limit bound (childNode w n c p) s))
 
-  makes-child : (n : Node Path Constraint) (c : Constraint) → Makes limit bound (makeChild n c) (child w n c)
+  makes-child : (n : Node Path Constraint) (c : Constraint) → Makes limit bound (makeChild w limit bound n c) (child w n c)
   makes-child n c = makes-with n c (w .least (w .bound c) (taskOf w (n .tasks) (w .bound c)) (c ∷ n .constraints))
 
-  makes-each : (n : Node Path Constraint) (sides : Constraint × Constraint) (rest : List (List ℕ)) → Makes limit bound (makeEach n sides rest) (toMake w n sides rest)
+  makes-each : (n : Node Path Constraint) (sides : Constraint × Constraint) (rest : List (List ℕ)) → Makes limit bound (makeEach w limit bound n sides rest) (toMake w n sides rest)
   makes-each n sides rest =
-      makes-both limit bound (makeRoot (n .root) rest) (λ t. andThen (makeChild n (sides .0) t) (makeChild n (sides .1)))
+      makes-both limit bound (makeRoot w limit bound (n .root) rest) (λ t. andThen (makeChild w limit bound n (sides .0) t) (makeChild w limit bound n (sides .1)))
       (nextRoot w (n .root) rest) (child w n (sides .0) ++ child w n (sides .1)) (makes-root (n .root) rest)
-      (makes-both limit bound (makeChild n (sides .0)) (makeChild n (sides .1)) (child w n (sides .0)) (child w n (sides .1))
+      (makes-both limit bound (makeChild w limit bound n (sides .0)) (makeChild w limit bound n (sides .1)) (child w n (sides .0)) (child w n (sides .1))
       (makes-child n (sides .0)) (makes-child n (sides .1)))
 
 module _ {Path Constraint : Type 0} (w : Problem Path Constraint) (limit : ℕ)

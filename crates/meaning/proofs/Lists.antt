@@ -1,17 +1,18 @@
 -- Laws of the lists that the definitions are made of: what stands in them, and in what order. Assumes nothing.
 use Prim.Native.Nat.{ℕ, zero, suc, _+_, _*_, _≤_, _<_}
-use mathlib.Core.Path.{_≡_, refl, sym, ap, subst}
+use mathlib.Core.Path.{_≡_, refl, sym, ap, subst, _∙_}
 use mathlib.Core.Logic.{_↔_, _⊎_, inl, inr, ⊎-elim}
 use mathlib.Core.Bool.{Bool, true, false, cond}
 use mathlib.Core.List.{List, [], _∷_, _++_, map, List·Memᴰ as Mem, List·Memᴰ·head as here, List·Memᴰ·tail as there, List·Memᴰ·not-nil as not-nil, List·Memᴰ·cases-cons as cases-cons, List·Memᴰ·append-cases as cases-append, Memᴰ·append-left as in-left, Memᴰ·append-right as in-right}
 use mathlib.Core.Option.{Option, none, some}
 use native.Mathlib.Nat.{not-suc-le-zero, eq-or-lt-of-le, le-trans, le-refl, le-of-lt, le-of-suc-le-suc, suc-mul}
 use native.Mathlib.Omega.{arith}
-use lib.ListN.{length, getD, List·getD-append}
+use lib.ListN.{length, length-map, getD, List·getD-append}
 use lib.Seq.{getD-append-add}
 use lib.Dec.{T, leb}
 use borrow.Author.Tests.{leb-true, leb-false}
 use Rattle.deck.specs.Lists.{countFrom, below, sum, select, each, takeLeast, pickLeast, headOf}
+use Rattle.meaning.specs.Sorted.{Sorted}
 
 module _ {A B : Type 0} where
   pub mem-map : (f : A → B) (l : List A) {y : B} → Mem y (map f l) → (x : A) × Mem x l × (y ≡ f x)
@@ -98,6 +99,13 @@ getD-tabulate f k zero i d h = absurd (not-suc-le-zero h)
 getD-tabulate f k (suc n) zero d h = let e : k ≡ k + 0 = omega arith in ap f e
 getD-tabulate f k (suc n) (suc i) d h = let e : suc k + i ≡ k + suc i = omega arith in rw (getD-tabulate f (suc k) n i d (omega arith)) (ap f e)
 
+-- f at each number below n
+pub length-below : {A : Type 0} (n : ℕ) (f : ℕ → A) → length (map f (below n)) ≡ n
+length-below n f = length-map (below n) f ∙ length-countFrom 0 n
+
+pub getD-below : {A : Type 0} (n : ℕ) (f : ℕ → A) (i : ℕ) (d : A) → i < n → getD (map f (below n)) i d ≡ f i
+getD-below n f i d h = let e : 0 + i ≡ i = omega arith in getD-tabulate f 0 n i d h ∙ ap f e
+
 -- the rows f x, all of length w, one after the other: the element j of row i
 pub each-at : {A B : Type 0} (f : A → List B) (w : ℕ) → ((x : A) → length (f x) ≡ w) → (l : List A) (c : A) (d : B)
     → (i j : ℕ) → i < length l → j < w → getD (each f l) (i * w + j) d ≡ getD (f (getD l i c)) j d
@@ -110,23 +118,18 @@ each-at f w s (x ∷ l) c d (suc i) j h k =
     rw (e, getD-append-add (f x) (each f l) (i * w + j) d) (each-at f w s l c d i j (le-of-suc-le-suc h) k)
 
 module _ {A : Type 0} (R : A → A → Type 0) where
-  -- each element stands in the relation R to each later one
-  abbrev pub Sorted : List A → Type 0
-  Sorted [] = Unit {0}
-  Sorted (x ∷ l) = ((y : A) → Mem y l → R x y) × Sorted l
-
-  pub sorted-append : (l r : List A) → Sorted l → Sorted r → ((x y : A) → Mem x l → Mem y r → R x y) → Sorted (l ++ r)
+  pub sorted-append : (l r : List A) → Sorted R l → Sorted R r → ((x y : A) → Mem x l → Mem y r → R x y) → Sorted R (l ++ r)
   sorted-append [] r h k g = k
   sorted-append (x ∷ l) r h k g = (
     λ y m. ⊎-elim (h .0 y) (g x y (here refl)) (cases-append l m),
     sorted-append l r (h .1) k (λ z y m n. g z y (there m) n),
   )
 
-  pub sorted-select : (f : A → Bool) (l : List A) → Sorted l → Sorted (select f l)
+  pub sorted-select : (f : A → Bool) (l : List A) → Sorted R l → Sorted R (select f l)
   sorted-select f [] h = tt
   sorted-select f (x ∷ l) h = go (f x) (sorted-select f l (h .1))
     where
-      go : (b : Bool) → Sorted (select f l) → Sorted (cond b (x ∷ select f l) (select f l))
+      go : (b : Bool) → Sorted R (select f l) → Sorted R (cond b (x ∷ select f l) (select f l))
       go true k = (λ y m. h .0 y (mem-select f l m .0), k)
       go false k = k
 
@@ -135,7 +138,7 @@ module _ {A : Type 0} (R : A → A → Type 0) where
   Head l none = l ≡ []
   Head l (some x) = Mem x l × ((y : A) → Mem y l → (y ≡ x) ⊎ R x y)
 
-  pub head-first : (l : List A) → Sorted l → Head l (headOf l)
+  pub head-first : (l : List A) → Sorted R l → Head l (headOf l)
   head-first [] h = refl
   head-first (x ∷ l) h = (here refl, λ y m. ⊎-elim (λ e. inl e) (λ n. inr (h .0 y n)) (cases-cons m))
 

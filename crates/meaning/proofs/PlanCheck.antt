@@ -8,18 +8,22 @@ use mathlib.Core.Option.{none, some}
 use native.Mathlib.Nat.{not-suc-le-zero}
 use native.Mathlib.Omega.{arith}
 use lib.ListN.{length, getD, take, drop, length-drop}
-use lib.Seq.{getD-drop, ext-getD}
+use lib.Seq.{getD-drop}
 use lib.Dec.{eqb, ltb}
 use Rattle.deck.specs.Lists.{all, sum}
 use Rattle.deck.specs.Sheet.{Sheet, carrier, task}
 use Rattle.deck.specs.Paths.{finishOf}
-use Rattle.deck.specs.PlanCheck.{arePaths, isAssignment, isPlan, finishes, planCheck}
+use Rattle.deck.specs.Search.{flowtime}
+use Rattle.deck.specs.Planner.{problem}
+use Rattle.deck.specs.PlanCheck.{arePaths, isAssignment, isPlan, planCheck}
 use Rattle.deck.specs.declared.Task.{Task}
 use Rattle.meaning.specs.Meaning.{_at_, Path, pathOf, Assignment, Plan}
 use Rattle.meaning.proofs.Tests.{Says, says-leb, says-eqb, says-and, says-nil, says-iff}
 use Rattle.meaning.proofs.ListTests.{says-all-at, says-on, says-distinct}
-use Rattle.meaning.proofs.Paths.{path-finish, is-path-meant}
+use Rattle.meaning.proofs.Lists.{length-below}
+use Rattle.meaning.proofs.Paths.{is-path-meant}
 use Rattle.meaning.proofs.Collisions.{no-collisions}
+use Rattle.meaning.proofs.Flowtime.{finishAt, finishes, finishes-at, flowtime-sum, plan-finishes, plan-flowtime}
 
 -- the test of an assignment
 pub assignment-meant : (m : ℕ) (a : List ℕ) → Says (isAssignment m a) (Assignment m a)
@@ -49,26 +53,6 @@ chosen : {A : Type 0} {b : Bool} {P : Type 0} {x y : A} → Says b P → (cond b
 chosen {b = true} s = (λ e. (s .fact tt, cc), λ h. ap some (h .1))
 chosen {b = false} s = (λ e. let z : _≡_ {A = ℕ} 0 1 = cc in absurd (omega arith), λ h. absurd (s .test (h .0)))
 
-finishes-length : (d : Sheet) (a : List ℕ) (ps : List (List ℕ)) → length ps ≡ length a → length (finishes d a ps) ≡ length a
-unfolding finishes
-finishes-length d [] ps e = refl
-finishes-length d (j ∷ a) [] e = absurd (omega arith)
-finishes-length d (j ∷ a) (p ∷ ps) e = ap suc (finishes-length d a ps (omega arith))
-
-finishes-at : (d : Sheet) (a : List ℕ) (ps : List (List ℕ)) (k : ℕ) → k < length a → k < length ps
-    → finishes d a ps at k ≡ finishOf d (task (a at k)) (pathOf ps k)
-unfolding finishes
-finishes-at d [] ps k l m = absurd (not-suc-le-zero l)
-finishes-at d (j ∷ a) [] k l m = absurd (not-suc-le-zero m)
-finishes-at d (j ∷ a) (p ∷ ps) zero l m = refl
-finishes-at d (j ∷ a) (p ∷ ps) (suc k) l m = finishes-at d a ps k (omega arith) (omega arith)
-
--- a plan has the finishes that are computed
-pub plan-finishes : {d : Sheet} {a : List ℕ} {ps : List (List ℕ)} {fs : List ℕ} → Plan d a ps fs → fs ≡ finishes d a ps
-plan-finishes {d} {a} {ps} {fs} h =
-    ext-getD 0 fs (finishes d a ps) (omega (arith, finishes-length d a ps (omega arith)))
-    (λ i l. sym (finishes-at d a ps i (omega arith) (omega arith) ∙ path-finish (h .paths i (omega arith))))
-
 module _ (d : Sheet) where
   by-carrier : {b c : ℕ} {j : Task} {p : List ℕ} {t : ℕ} → b ≡ c → Path d (carrier b) j p t → Path d (carrier c) j p t
   by-carrier {j} {p} {t} e h = subst (λ (k : ℕ). Path d (carrier k) j p t) e h
@@ -76,10 +60,10 @@ module _ (d : Sheet) where
   -- the paths ps are those of carriers i, i + 1, .. for the tasks a
   abbrev Served : ℕ → List ℕ → List (List ℕ) → Type 0
   Served i a ps =
-      (length ps ≡ length a) × ((k c : ℕ) → i + k ≡ c → k < length a → Path d (carrier c) (task (a at k)) (pathOf ps k) (finishes d a ps at k))
+      (length ps ≡ length a) × ((k c : ℕ) → i + k ≡ c → k < length a → Path d (carrier c) (task (a at k)) (pathOf ps k) (finishAt d a ps k))
 
   are-paths-meant : (i : ℕ) (a : List ℕ) (ps : List (List ℕ)) → Says (arePaths d i a ps) (Served i a ps)
-  unfolding arePaths finishes
+  unfolding arePaths
   are-paths-meant i [] [] = record { fact = λ t. (refl, λ k c e l. absurd (not-suc-le-zero l)); test = λ h. tt }
   are-paths-meant i [] (p ∷ ps) = record { fact = λ t. absurd t; test = λ h. absurd (omega (arith, h .0)) }
   are-paths-meant i (j ∷ a) [] = record { fact = λ t. absurd t; test = λ h. absurd (omega (arith, h .0)) }
@@ -90,7 +74,7 @@ module _ (d : Sheet) where
       )
     where
       onward : Path d (carrier i) (task j) p (finishOf d (task j) p) → Served (suc i) a ps
-          → (k c : ℕ) → i + k ≡ c → k < length (j ∷ a) → Path d (carrier c) (task ((j ∷ a) at k)) (pathOf (p ∷ ps) k) (finishes d (j ∷ a) (p ∷ ps) at k)
+          → (k c : ℕ) → i + k ≡ c → k < length (j ∷ a) → Path d (carrier c) (task ((j ∷ a) at k)) (pathOf (p ∷ ps) k) (finishAt d (j ∷ a) (p ∷ ps) k)
       onward h g zero c e l = by-carrier (omega arith) h
       onward h g (suc k) c e l = g .1 k c (omega arith) (omega arith)
 
@@ -105,11 +89,11 @@ module _ (d : Sheet) where
             record {
               assigned = h .0 .0;
               a-path-each = e ∙ n;
-              a-finish-each = finishes-length d a ps e ∙ n;
-              paths = λ i l. h .0 .1 .1 i i (omega arith) (omega arith);
+              a-finish-each = length-below (d .count) (finishAt d a ps);
+              paths = λ i l. rw (finishes-at d a ps i l) (h .0 .1 .1 i i (omega arith) (omega arith));
               apart = h .1;
             },
-        λ g. ((g .assigned, (omega arith, λ k c e l. by-carrier (omega arith) (g .paths k (omega arith)))), g .apart),
+        λ g. ((g .assigned, (omega arith, λ k c e l. by-carrier {b = k} (omega arith) (rw (← finishes-at d a ps k (omega arith)) (g .paths k (omega arith))))), g .apart),
       )
 
   -- the plan check says yes, with the flowtime, exactly for a plan
@@ -119,9 +103,7 @@ module _ (d : Sheet) where
   unfolding planCheck
   plan-check-meant tasks ps f =
       let a : List ℕ = take (d .count) tasks in
-      let c = chosen {x = sum (finishes d a ps)} {y = f} (says-and (rest-meant (d .count) tasks) (plan-meant a ps)) in (
-        λ e. let h = c .0 e in (h .0 .0, (finishes d a ps, h .0 .1, h .1)),
-        λ h.
-            let e = plan-finishes (h .1 .1) in
-            c .1 ((h .0, subst (Plan d a ps) e (h .1 .1)), sym (ap sum e) ∙ h .1 .2),
+      let c = chosen {x = flowtime (problem d) a ps} {y = f} (says-and (rest-meant (d .count) tasks) (plan-meant a ps)) in (
+        λ e. let h = c .0 e in (h .0 .0, (finishes d a ps, h .0 .1, sym (flowtime-sum d a ps) ∙ h .1)),
+        λ h. c .1 ((h .0, subst (Plan d a ps) (plan-finishes d a ps (h .1 .1)) (h .1 .1)), plan-flowtime d a ps (h .1 .1) ∙ h .1 .2),
       )

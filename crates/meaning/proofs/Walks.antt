@@ -11,7 +11,8 @@ use Rattle.deck.specs.Lists.{below, each}
 use Rattle.deck.specs.Sheet.{Sheet, area}
 use Rattle.deck.specs.Paths.{mayStep, steps, walks}
 use Rattle.meaning.specs.Meaning.{_at_, Before}
-use Rattle.meaning.proofs.Lists.{mem-map, map-mem, mem-each, each-mem, mem-select, select-mem, mem-below, Sorted, sorted-select, sorted-map, sorted-countFrom, sorted-each}
+use Rattle.meaning.specs.Sorted.{Sorted}
+use Rattle.meaning.proofs.Lists.{mem-map, map-mem, mem-each, each-mem, mem-select, select-mem, mem-below, sorted-select, sorted-map, sorted-countFrom, sorted-each}
 
 -- the places that a step may lead to are those of the grid that the test allows
 pub step-iff : (d : Sheet) (u v : ℕ) → Mem v (steps d u) ↔ ((v < area d) × T (mayStep d u v))

@@ -1,1 +1,3 @@
 pub mod Meaning
+pub mod Sorted
+pub mod Making

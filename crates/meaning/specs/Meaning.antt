@@ -1,11 +1,13 @@
 -- What a path, a finish, a collision, an assignment, a plan and a flowtime are, said with quantifiers and without the definitions
--- that compute; and what the search has to answer (demand 3). A reader who believes this file and the sheet's accessors need
--- not believe the definitions of paths, collisions, assignments, plan check or search. Assumes nothing.
+-- that compute; and what the search has to answer (demand 3). A reader who believes this file, the sheet's accessors and how lists
+-- are read (`at`, `pathOf`, `sum`) need not believe the definitions of paths, collisions, assignments, plan check or search. Assumes
+-- nothing.
 use Prim.Native.Nat.{ℕ, suc, _/_, _%_, _≤_, _<_}
 use mathlib.Core.Path.{_≡_}
 use mathlib.Core.Logic.{_≢_, _⊎_}
 use mathlib.Core.List.{List, [], _∷_, List·Memᴰ as Mem}
-use lib.ListN.{length, getD}
+use lib.ListN.{length}
+pub use Rattle.deck.specs.Lists.{_at_, pathOf}
 use Rattle.deck.specs.Lists.{sum}
 use Rattle.deck.specs.Sheet.{Sheet, area, carrier, task, startOf, goalsOf, lastGoal}
 use Rattle.deck.specs.Assignments.{barred, entryAt, sumOf}
@@ -16,11 +18,6 @@ use Rattle.deck.specs.declared.Constraint.{Constraint}
 use Rattle.deck.specs.declared.Constraint.the-variants.{Place, Move}
 use Rattle.deck.specs.declared.Collision.{Collision}
 use Rattle.deck.specs.declared.Collision.the-variants.{Place as PlaceCollision, Move as MoveCollision}
-
-infixl 80 _at_
--- the element at an index; of a path, the place at a time
-abbrev pub _at_ : List ℕ → ℕ → ℕ
-l at k = getD l k 0
 
 pub record Free (d : Sheet) (v : ℕ) : Type 0 where
   pub on-grid : v < area d
@@ -84,10 +81,6 @@ Before (x ∷ p) (y ∷ q) = (x < y) ⊎ ((x ≡ y) × Before p q)
 pub record LeastPath (d : Sheet) (i : Carrier) (j : Task) (cs : List Constraint) (p : List ℕ) (t : ℕ) : Type 0 where
   pub under : PathUnder d i j cs p t
   pub first : (q : List ℕ) (u : ℕ) → PathUnder d i j cs q u → (t < u) ⊎ ((t ≡ u) × Before p q)
-
--- the path of a carrier
-abbrev pub pathOf : List (List ℕ) → ℕ → List ℕ
-pathOf ps i = getD ps i []
 
 -- both paths are on u at t
 abbrev pub Meet : ℕ → List ℕ → List ℕ → (t u : ℕ) → Type 0

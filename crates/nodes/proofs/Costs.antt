@@ -7,11 +7,11 @@ use native.Mathlib.Omega.{arith}
 use lib.ListN.{length, getD}
 use lib.Seq.{getD-take}
 use Rattle.deck.specs.Lists.{below, sum}
-use Rattle.deck.specs.Sheet.{Sheet, task, lastGoal}
+use Rattle.deck.specs.Sheet.{Sheet, task}
 use Rattle.deck.specs.Paths.{finishOf}
 use Rattle.deck.specs.Planner.{problem}
 use Rattle.meaning.proofs.Lists.{getD-tabulate}
-use Rattle.meaning.proofs.Finish.{finish-least}
+use Rattle.meaning.proofs.Finish.{finish-most}
 use Rattle.pack.proofs.Trips.{length-unpack}
 use Rattle.records.specs.Record.{tasksIn, finishesIn, packedIn}
 use Rattle.nodes.specs.Nodes.{pathOf, pathsOf, costOf}
@@ -36,7 +36,7 @@ module _ (d : Sheet) (fs : List (List ℕ)) where
       most : (i : ℕ) → finishIn i ≤ 256
       most i =
           let l : length (pathOf d fs i) ≡ d .horizon + 1 = length-unpack (d .width) (d .horizon) (packedIn fs i) (getD (d .starts) i 0) in
-          let h : finishIn i ≤ length (pathOf d fs i) = finish-least (lastGoal d (task (getD (tasksIn fs) i 0))) (pathOf d fs i) (length (pathOf d fs i)) (omega arith) (λ t x y. absurd (omega arith)) in
+          let h : finishIn i ≤ length (pathOf d fs i) = finish-most d (task (getD (tasksIn fs) i 0)) (pathOf d fs i) in
           omega (arith, f .horizon)
 
   -- the finishes that are stored

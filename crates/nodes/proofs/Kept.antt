@@ -1,6 +1,6 @@
 -- What leaves the store as it is: closing a node, slots of a root, words past the keys. Assumes nothing.
 use mathlib.Core.Path.{_≡_, refl, sym, _∙_, ap, ap₂}
-use mathlib.Core.List.{List, [], map}
+use mathlib.Core.List.{List, map}
 use Prim.Native.Nat.{ℕ, suc, _+_, _*_, _<_, _≤_}
 use native.Mathlib.Decide.{ℕ-discrete}
 use native.Mathlib.Omega.{arith}
@@ -12,7 +12,7 @@ use Rattle.deck.specs.declared.Constraint.{Constraint}
 use Rattle.records.specs.Record.{fields, fieldsAt, rootIn, constraintIn, withSlot, keyAt, closedKey, withKey, Wrote}
 use Rattle.records.proofs.Frames.{key-same, key-other, key-record, fields-front, key-front}
 use Rattle.nodes.specs.Nodes.{constraintsAt, pathOf, pathsOf, assignmentOf, costOf, nodeOf, nodeAt, isOpen, openedAt}
-use Rattle.nodes.specs.Stored.{Sound, Stored}
+use Rattle.nodes.specs.Stored.{Sound, Stored, NodeAlike}
 use Rattle.nodes.proofs.Tables.{map-same, map-select-same, select-same}
 use Rattle.nodes.proofs.Chains.{stored-links, chain-alike, node-same}
 use Rattle.nodes.proofs.Makes.{node-is}
@@ -48,18 +48,11 @@ module _ (d : Sheet) (limit : ℕ) (work : List ℕ) (made n : ℕ) (s : Stored 
           let e : keyAt limit after k ≡ keyAt limit work k = key-other work limit n k closedKey z in
           e ∙ s .key k x (λ g. ne (e ∙ g)) ∙ rw (same-fields k x)
 
--- FIELDS THAT ARE NOT OF THE NODE: the fields of two records that its node is read from are the same
-pub record Alike (fs gs : List (List ℕ)) : Type 0 where
-  pub link : getD fs 0 [] ≡ getD gs 0 []
-  pub own : getD fs 1 [] ≡ getD gs 1 []
-  pub tasks : getD fs 2 [] ≡ getD gs 2 []
-  pub finishes : getD fs 3 [] ≡ getD gs 3 []
-  pub paths : getD fs 7 [] ≡ getD gs 7 []
-
-pub alike-same : (fs gs : List (List ℕ)) → fs ≡ gs → Alike fs gs
+-- FIELDS THAT ARE NOT OF THE NODE
+pub alike-same : (fs gs : List (List ℕ)) → fs ≡ gs → NodeAlike fs gs
 alike-same fs gs e = rw e (record { link = refl; own = refl; tasks = refl; finishes = refl; paths = refl })
 
-module _ (d : Sheet) (fs gs : List (List ℕ)) (a : Alike fs gs) where
+module _ (d : Sheet) (fs gs : List (List ℕ)) (a : NodeAlike fs gs) where
   alike-path : (i : ℕ) → pathOf d fs i ≡ pathOf d gs i
   alike-path i = rw (a .paths)
 
@@ -87,7 +80,7 @@ module _ (d : Sheet) (fs gs : List (List ℕ)) (a : Alike fs gs) where
         paths = λ i h. rw (a .paths) (s .paths i h);
       }
 
-module _ (d : Sheet) (limit : ℕ) (before after : List ℕ) (made : ℕ) (s : Stored d limit before made) (alike : (k : ℕ) → k < made → Alike (fieldsAt after k) (fieldsAt before k))
+module _ (d : Sheet) (limit : ℕ) (before after : List ℕ) (made : ℕ) (s : Stored d limit before made) (alike : (k : ℕ) → k < made → NodeAlike (fieldsAt after k) (fieldsAt before k))
     (keys : (k : ℕ) → k < made → keyAt limit after k ≡ keyAt limit before k) where
   pub kept-stored : Stored d limit after made
   kept-stored =
@@ -108,19 +101,19 @@ module _ (d : Sheet) (limit : ℕ) (before after : List ℕ) (made : ℕ) (s : S
       ∙ ap (map (nodeAt d before)) (select-same (isOpen limit after) (isOpen limit before) 0 made (λ k a b. rw (keys k (omega arith))))
 
 -- a slot of a root is no part of its node
-pub slot-alike : (before after : List ℕ) (n j : ℕ) (slot : List ℕ) → Wrote before after n (withSlot (fieldsAt before n) j slot) → (k : ℕ) → Alike (fieldsAt after k) (fieldsAt before k)
+pub slot-alike : (before after : List ℕ) (n j : ℕ) (slot : List ℕ) → Wrote before after n (withSlot (fieldsAt before n) j slot) → (k : ℕ) → NodeAlike (fieldsAt after k) (fieldsAt before k)
 slot-alike before after n j slot u k = go (ℕ-discrete k n)
   where
-    alike-slot : Alike (withSlot (fieldsAt before n) j slot) (fieldsAt before n)
+    alike-slot : NodeAlike (withSlot (fieldsAt before n) j slot) (fieldsAt before n)
     alike-slot = unfold fieldsAt in unfold fields in record { link = refl; own = refl; tasks = refl; finishes = refl; paths = refl }
 
-    go : Dec (k ≡ n) → Alike (fieldsAt after k) (fieldsAt before k)
+    go : Dec (k ≡ n) → NodeAlike (fieldsAt after k) (fieldsAt before k)
     go (yes z) = rw (z, u .here) alike-slot
     go (no z) = alike-same (fieldsAt after k) (fieldsAt before k) (u .records k z)
 
 -- words past the keys are no part of the store
 module _ (before after : List ℕ) (limit made : ℕ) (m : made ≤ limit) (l : limit ≤ 4096) (e : take (512 * limit + 4096) after ≡ take (512 * limit + 4096) before) where
-  pub front-alike : (k : ℕ) → k < made → Alike (fieldsAt after k) (fieldsAt before k)
+  pub front-alike : (k : ℕ) → k < made → NodeAlike (fieldsAt after k) (fieldsAt before k)
   front-alike k h = alike-same (fieldsAt after k) (fieldsAt before k) (fields-front after before limit k (omega arith) e)
 
   pub front-keys : (k : ℕ) → k < made → keyAt limit after k ≡ keyAt limit before k

@@ -50,6 +50,14 @@ pub record Stored (d : Sheet) (limit : ℕ) (work : List ℕ) (made : ℕ) : Typ
   pub sound : (k : ℕ) → k < made → Sound d k (fieldsAt work k)
   pub key : (k : ℕ) → k < made → (keyAt limit work k ≡ closedKey → ⊥) → keyAt limit work k ≡ costOf d (fieldsAt work k)
 
+-- the fields of two records that a node is read from are the same
+pub record NodeAlike (fs gs : List (List ℕ)) : Type 0 where
+  pub link : getD fs 0 [] ≡ getD gs 0 []
+  pub own : getD fs 1 [] ≡ getD gs 1 []
+  pub tasks : getD fs 2 [] ≡ getD gs 2 []
+  pub finishes : getD fs 3 [] ≡ getD gs 3 []
+  pub paths : getD fs 7 [] ≡ getD gs 7 []
+
 -- the node x is made as number `made`: it is the last of the open ones, and all nodes before it are as they were
 pub record Added (d : Sheet) (limit : ℕ) (before after : List ℕ) (made : ℕ) (x : Node (List ℕ) Constraint) : Type 0 where
   pub opened : openedAt d limit after (made + 1) ≡ openedAt d limit before made ++ (x ∷ [])

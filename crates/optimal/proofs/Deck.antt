@@ -1,5 +1,5 @@
--- The deck as an instance of the search: the rules of a sheet, as the meaning has them, and the laws that the parts of its problem
--- keep, where each start is on the grid and the horizon is below the barred entry. Assumes nothing.
+-- The deck as an instance of the search: the laws that the parts of its problem keep, where each start is on the grid and the horizon
+-- is below the barred entry. Assumes nothing.
 use Prim.Native.Nat.{ℕ, zero, suc, _≤_, _<_}
 use mathlib.Core.Path.{_≡_, refl, sym, ap, subst, _∙_}
 use mathlib.Core.Logic.{_⊎_, inl, inr, ⊎-elim, _≢_}
@@ -22,28 +22,13 @@ use Rattle.deck.specs.declared.Constraint.the-variants.{Place, Move}
 use Rattle.deck.specs.declared.Collision.{Collision}
 use Rattle.deck.specs.declared.Collision.the-variants.{Place as PlaceCollision, Move as MoveCollision}
 use Rattle.meaning.specs.Meaning.{_at_, Step, Path, Keeps, pathOf, Collides, FirstCollision, Assignment, Less}
-use Rattle.meaning.proofs.Lists.{mem-below, sum-same, Sorted}
+use Rattle.meaning.specs.Sorted.{Sorted}
+use Rattle.meaning.proofs.Lists.{mem-below, sum-same, getD-below}
 use Rattle.meaning.proofs.LeastPath.{LeastMeant, least-path-meant}
 use Rattle.meaning.proofs.Collisions.{FirstMeant, first-collision-meant, no-first-collides}
 use Rattle.meaning.proofs.Assignments.{in-order-meant, in-order-rising, table-at, sum-at}
-use Rattle.optimal.specs.Plans.{Rules, Legals, IsLeast, Splits, Served, Rising, Laws}
-use Rattle.optimal.proofs.Sums.{getD-below}
-
--- what is asked of a constraint: its carrier is there, its places are on the grid, and its time is in the horizon
-abbrev pub Fit : Sheet → Constraint → Type 0
-Fit d (Place a u t) = (a .0 < d .count) × (u < area d) × (t ≤ d .horizon)
-Fit d (Move a u v t) = (a .0 < d .count) × (u < area d) × (v < area d) × (t < d .horizon)
-
--- The rules of a sheet
-abbrev pub rules : Sheet → Rules (List ℕ) Constraint
-rules d =
-    record {
-      IsAsg = Assignment (d .count);
-      Legal = λ i j p. Path d (carrier i) (task j) p (finishOf d (task j) p);
-      Fit = Fit d;
-      Keeps = λ i p c. Keeps (carrier i) p c;
-      Clash = Collides (d .horizon);
-    }
+use Rattle.optimal.specs.Plans.{Legals, IsLeast, Splits, Served, Rising, Laws}
+use Rattle.optimal.specs.Deck.{Fit, rules}
 
 -- Of paths that do not collide one is not on u at t
 split-place : (h : ℕ) (p q : List ℕ) (t u : ℕ) → t ≤ h → ¬ Collides h p q → (p at t ≢ u) ⊎ (q at t ≢ u)

@@ -1,37 +1,32 @@
 -- Demand 3: of each accepted sheet, the search's answer is right. Assumes nothing.
 use Prim.Native.Nat.{ℕ, _≤_, _<_}
 use mathlib.Core.Path.{_≡_, sym, subst, _∙_}
-use mathlib.Core.List.{List, map}
+use mathlib.Core.List.{List}
 use mathlib.Core.Option.{some}
 use native.Mathlib.Omega.{arith}
-use Rattle.deck.specs.Lists.{below, sum}
-use Rattle.deck.specs.Sheet.{Sheet, area, carrier, task, startOf, read, cause}
-use Rattle.deck.specs.Paths.{finishOf}
+use Rattle.deck.specs.Sheet.{Sheet, area, carrier, startOf, read, cause}
 use Rattle.deck.specs.Assignments.{barred}
-use Rattle.deck.specs.Search.{Answer, plan, noPlan, spent, flowtime, searched, cheapest}
+use Rattle.deck.specs.Search.{Answer, plan, noPlan, spent, searched, cheapest}
 use Rattle.deck.specs.Planner.{problem, answerOr, planFor}
-use Rattle.meaning.specs.Meaning.{_at_, pathOf, Plan, NoPlanBelow, Right}
-use Rattle.meaning.proofs.Lists.{mem-below, sum-same}
+use Rattle.meaning.specs.Meaning.{Plan, NoPlanBelow, Right}
+use Rattle.meaning.proofs.Lists.{length-below}
 use Rattle.meaning.proofs.Paths.{path-finish}
+use Rattle.meaning.proofs.Flowtime.{finishAt, finishes, finishes-at, flowtime-sum, plan-flowtime}
 use Rattle.optimal.specs.Plans.{IsPlan, Best, NoPlanBelow as NoneBelow}
-use Rattle.optimal.proofs.Sums.{sum-by-index, length-below, getD-below}
 use Rattle.optimal.proofs.Optimal.{exact-best}
-use Rattle.optimal.proofs.Deck.{rules, laws}
+use Rattle.optimal.specs.Deck.{rules}
+use Rattle.optimal.proofs.Deck.{laws}
 use Rattle.meaning.proofs.Accepted.{accepted-limit, accepted-horizon, accepted-start}
 
 module _ (d : Sheet) where
-  -- the finishes of the paths
-  abbrev finishes : List ℕ → List (List ℕ) → List ℕ
-  finishes a ps = map (λ i. finishOf d (task (a at i)) (pathOf ps i)) (below (d .count))
-
   -- a plan by the rules of the search is a plan, with these finishes
-  plan-meant : (a : List ℕ) (ps : List (List ℕ)) → IsPlan (problem d) (rules d) a ps → Plan d a ps (finishes a ps)
+  plan-meant : (a : List ℕ) (ps : List (List ℕ)) → IsPlan (problem d) (rules d) a ps → Plan d a ps (finishes d a ps)
   unfolding problem
   plan-meant a ps p = record {
     assigned = p .assigned;
     a-path-each = p .a-path-each;
-    a-finish-each = length-below (d .count) _;
-    paths = λ i h. rw (getD-below (d .count) (λ k. finishOf d (task (a at k)) (pathOf ps k)) i 0 h) (p .legal i h);
+    a-finish-each = length-below (d .count) (finishAt d a ps);
+    paths = λ i h. rw (finishes-at d a ps i h) (p .legal i h);
     apart = p .apart;
   }
 
@@ -45,19 +40,12 @@ module _ (d : Sheet) where
     apart = p .apart;
   }
 
-  -- of which the flowtime is the sum of the finishes
-  meant-flowtime : (a : List ℕ) (ps : List (List ℕ)) (fs : List ℕ) → Plan d a ps fs → flowtime (problem d) a ps ≡ sum fs
-  unfolding problem
-  meant-flowtime a ps fs p =
-      sum-same _ _ (below (d .count)) (λ i m. path-finish (p .paths i (mem-below (d .count) .0 m))) ∙ sym (sum-by-index fs (d .count) (p .a-finish-each))
-
   none-below : (b : ℕ) → NoneBelow (problem d) (rules d) b → NoPlanBelow d b
-  none-below b h a ps fs p = rw (← meant-flowtime a ps fs p) (h a ps (meant-plan a ps fs p))
+  none-below b h a ps fs p = rw (← plan-flowtime d a ps p) (h a ps (meant-plan a ps fs p))
 
   -- an answer that is best by the rules of the search is right
   best-right : (x : Answer (List ℕ)) → Best (problem d) (rules d) x → Right d x
-  unfolding problem
-  best-right (plan a ps f n b) h = ((finishes a ps, plan-meant a ps (h .0), sym (h .1)), h .2, none-below f (h .3))
+  best-right (plan a ps f n b) h = ((finishes d a ps, plan-meant a ps (h .0), sym (h .1 ∙ flowtime-sum d a ps)), h .2, none-below f (h .3))
   best-right (noPlan n) h = λ a ps fs p. h a ps (meant-plan a ps fs p)
   best-right (spent n b) h = none-below b h
 

@@ -12,8 +12,10 @@ use lib.Dec.{leb, leb→le}
 use lib.ListN.{length, length-append}
 use Rattle.deck.specs.Search.{Problem, Node, State, Selected, Answer, noPlan, Turn, done, more, flowtime, rootOf, child, nextRoot, restAfter, toMake, grown, extend, expand, turnWith, turn, onward, run, searchFrom, searched}
 use Rattle.meaning.proofs.Lists.{Taken}
-use Rattle.optimal.specs.Plans.{Rules, IsPlan, KeepsOwn, Splits, Served, Rising, Laws, NoPlanBelow, Right}
-use Rattle.optimal.proofs.Nodes.{InOrder, Covers, legals, covered-cost, root-covers, root-in-order, child-in-order, child-covers}
+use Rattle.optimal.specs.Plans.{Rules, IsPlan, KeepsOwn, Splits, Rising, Laws, NoPlanBelow, Right}
+use Rattle.optimal.specs.Nodes.{IsNode, Covers}
+use Rattle.optimal.specs.Invariant.{AllServed, Covered, Led, Invariant}
+use Rattle.optimal.proofs.Nodes.{legals, covered-cost, root-covers, root-is-node, child-is-node, child-covers}
 
 -- What is asked of a selection rule: the node is taken from the list, its bound is below the cost of each node there, and near to
 -- its own cost
@@ -28,18 +30,6 @@ Picked Near l (some k) = Chosen Near l k
 
 -- The next root, and the assignments that remain after it
 module _ {Path Constraint : Type 0} (w : Problem Path Constraint) (r : Rules Path Constraint) where
-  -- the list's assignments are assignments, and each carrier has a path
-  abbrev pub Good : List (List ℕ) → Type 0
-  Good l = (a : List ℕ) → Mem a l → r .IsAsg a × Served w r a
-
-  -- one of the nodes covers the plan
-  abbrev pub Covered : List (Node Path Constraint) → List ℕ → List Path → Type 0
-  Covered l a qs = (x : Node Path Constraint) × Mem x l × Covers w r x a qs
-
-  -- one of the nodes is a root that costs at most as much as the root of a
-  abbrev pub Led : List (Node Path Constraint) → List ℕ → Type 0
-  Led l a = (x : Node Path Constraint) × Mem x l × (x .root ≡ true) × (x .cost ≤ rootOf w a .cost)
-
   rest-in : (b : Bool) (l : List (List ℕ)) (a : List ℕ) → Mem a (restAfter w b l) → Mem a l
   rest-in false l a m = m
   rest-in true [] a m = m
@@ -50,13 +40,13 @@ module _ {Path Constraint : Type 0} (w : Problem Path Constraint) (r : Rules Pat
   rest-rising true [] h = h
   rest-rising true (a ∷ l) h = h .1
 
-  next-cover : (b : Bool) (l : List (List ℕ)) (a : List ℕ) (qs : List Path) → Mem a l → Covered (nextRoot w b l) a qs ⊎ Mem a (restAfter w b l)
+  next-cover : (b : Bool) (l : List (List ℕ)) (a : List ℕ) (qs : List Path) → Mem a l → Covered w r (nextRoot w b l) a qs ⊎ Mem a (restAfter w b l)
   next-cover false l a qs m = inr m
   next-cover true [] a qs m = inr m
   next-cover true (b ∷ l) a qs m =
       ⊎-elim (λ e. inl (rootOf w b, here refl, rw e (root-covers w r b qs))) (λ t. inr t) (cases-cons m)
 
-  next-lead : (l : List (List ℕ)) → Rising w r l → (a : List ℕ) → Mem a (restAfter w true l) → Led (nextRoot w true l) a
+  next-lead : (l : List (List ℕ)) → Rising w r l → (a : List ℕ) → Mem a (restAfter w true l) → Led w r (nextRoot w true l) a
   next-lead [] up a m = absurd (not-nil m)
   next-lead (b ∷ l) up a m = (rootOf w b, here refl, refl, up .0 a m)
 
@@ -80,43 +70,31 @@ module _ {Path Constraint : Type 0} (w : Problem Path Constraint) (r : Rules Pat
       (λ n. ⊎-elim (root x) (λ u. ⊎-elim (left x) (right x) (cases-append (child w (k .node) (cc .0)) u)) (cases-append (nextRoot w (k .node .root) l) n))
       (cases-append (k .others) m)
 
--- The invariant of a state after t nodes were taken
 module _ {Path Constraint : Type 0} (w : Problem Path Constraint) (r : Rules Path Constraint) (limit : ℕ) where
-  pub record Inv (s : State Path Constraint) (t : ℕ) : Type 0 where
-    pub in-order : (x : Node Path Constraint) → Mem x (s .opened) → InOrder w r x
-    pub good : Good w r (s .rest)
-    pub rising : Rising w r (s .rest)
-    -- each plan is covered by an open node, or its assignment remains
-    pub cover : (a : List ℕ) (qs : List Path) → IsPlan w r a qs → Covered w r (s .opened) a qs ⊎ Mem a (s .rest)
-    -- for each assignment that remains an open root costs no more than its root will
-    pub lead : (a : List ℕ) → Mem a (s .rest) → Led w r (s .opened) a
-    pub counted : length (s .opened) + t ≡ s .made
-    pub within : s .made ≤ limit
-
   -- some open node costs at most as much as the plan
-  pub open-below : Laws w r → (s : State Path Constraint) (t : ℕ) → Inv s t → (a : List ℕ) (qs : List Path) → IsPlan w r a qs
+  pub open-below : Laws w r → (s : State Path Constraint) (t : ℕ) → Invariant w r limit s t → (a : List ℕ) (qs : List Path) → IsPlan w r a qs
       → (x : Node Path Constraint) × Mem x (s .opened) × (x .cost ≤ flowtime w a qs)
   open-below L s t v a qs p = go (v .cover a qs p)
     where
       go : Covered w r (s .opened) a qs ⊎ Mem a (s .rest) → (x : Node Path Constraint) × Mem x (s .opened) × (x .cost ≤ flowtime w a qs)
-      go (inl (x, m, c)) = (x, m, covered-cost w r x a qs (v .in-order x m) p c)
+      go (inl (x, m, c)) = (x, m, covered-cost w r x a qs (v .nodes x m) p c)
       go (inr m) =
           let u = v .lead a m in
-          let o = root-in-order w r L a (p .assigned) (v .good a m .1) in
+          let o = root-is-node w r L a (p .assigned) (v .served a m .1) in
           (u .0, u .1, le-trans (u .3) (covered-cost w r (rootOf w a) a qs o p (root-covers w r a qs)))
 
 -- The state after a turn in which the node k is taken
 module _ {Path Constraint : Type 0} (w : Problem Path Constraint) (r : Rules Path Constraint) (L : Laws w r) (limit : ℕ) (Near : ℕ → ℕ → Type 0) where
-  module _ (s : State Path Constraint) (t : ℕ) (v : Inv w r limit s t) (k : Selected Path Constraint) (ch : Chosen Near (s .opened) k) where
-    pub node-in-order : InOrder w r (k .node)
-    node-in-order = v .in-order (k .node) (ch .out .taken)
+  module _ (s : State Path Constraint) (t : ℕ) (v : Invariant w r limit s t) (k : Selected Path Constraint) (ch : Chosen Near (s .opened) k) where
+    pub taken-is-node : IsNode w r (k .node)
+    taken-is-node = v .nodes (k .node) (ch .out .taken)
 
     bound-below : NoPlanBelow w r (k .bound)
     bound-below a qs p = let u = open-below w r limit L s t v a qs p in le-trans (ch .below (u .0) (u .1)) (u .2)
 
     -- the two constraints of the node's first collision, or none
     pub node-splits : Splits w r (k .node .paths) (w .collision (k .node .paths))
-    node-splits = L .collision (k .node .tasks) (k .node .paths) (legals w r node-in-order)
+    node-splits = L .collision (k .node .tasks) (k .node .paths) (legals w r taken-is-node)
 
     -- the node has the collision that gives the two constraints
     module _ (cc : Constraint × Constraint) (sp : Splits w r (k .node .paths) (some cc)) where
@@ -133,13 +111,13 @@ module _ {Path Constraint : Type 0} (w : Problem Path Constraint) (r : Rules Pat
       children-opened : {x : Node Path Constraint} → Mem x (child w (k .node) (cc .0) ++ child w (k .node) (cc .1)) → Mem x (k .others ++ new)
       children-opened m = in-right (k .others) (in-right (nextRoot w (k .node .root) (s .rest)) m)
 
-      next-in-order : (x : Node Path Constraint) → Mem x (k .others ++ new) → InOrder w r x
-      next-in-order =
-          each-next w r (InOrder w r) k cc (s .rest)
-          (λ x m. v .in-order x (ch .out .among x m))
-          (each-root w r (InOrder w r) (k .node .root) (s .rest) (λ a m. let g = v .good a m in root-in-order w r L a (g .0) (g .1)))
-          (child-in-order w r L (k .node) node-in-order (cc .0) (sp .0))
-          (child-in-order w r L (k .node) node-in-order (cc .1) (sp .1))
+      next-nodes : (x : Node Path Constraint) → Mem x (k .others ++ new) → IsNode w r x
+      next-nodes =
+          each-next w r (IsNode w r) k cc (s .rest)
+          (λ x m. v .nodes x (ch .out .among x m))
+          (each-root w r (IsNode w r) (k .node .root) (s .rest) (λ a m. let g = v .served a m in root-is-node w r L a (g .0) (g .1)))
+          (child-is-node w r L (k .node) taken-is-node (cc .0) (sp .0))
+          (child-is-node w r L (k .node) taken-is-node (cc .1) (sp .1))
 
       next-covers : (a : List ℕ) (qs : List Path) → IsPlan w r a qs → Covered w r (k .others ++ new) a qs ⊎ Mem a rest
       next-covers a qs p = go (v .cover a qs p)
@@ -148,7 +126,7 @@ module _ {Path Constraint : Type 0} (w : Problem Path Constraint) (r : Rules Pat
           by-child : (c : Constraint) → r .Fit c → ((x : Node Path Constraint) → Mem x (child w (k .node) c) → Mem x (k .others ++ new))
               → Covers w r (k .node) a qs → KeepsOwn w r qs c → Covered w r (k .others ++ new) a qs
           by-child c fit place covers own =
-              let u = child-covers w r L (k .node) node-in-order c fit a qs p covers own in
+              let u = child-covers w r L (k .node) taken-is-node c fit a qs p covers own in
               (u .0, place (u .0) (u .1), u .2)
 
           by-open : (x : Node Path Constraint) → Covers w r x a qs → (x ≡ k .node) ⊎ Mem x (k .others) → Covered w r (k .others ++ new) a qs
@@ -177,10 +155,10 @@ module _ {Path Constraint : Type 0} (w : Problem Path Constraint) (r : Rules Pat
           go false e = let u = v .lead a (rest-in w r (k .node .root) (s .rest) a m) in by-open e u (ch .out .kept (u .0) (u .1))
 
       pub next-inv : s .made + length (toMake w (k .node) cc (s .rest)) ≤ limit
-          → Inv w r limit (grown w s k (toMake w (k .node) cc (s .rest))) (suc t)
+          → Invariant w r limit (grown w s k (toMake w (k .node) cc (s .rest))) (suc t)
       next-inv room = record {
-        in-order = next-in-order;
-        good = λ a m. v .good a (rest-in w r (k .node .root) (s .rest) a m);
+        nodes = next-nodes;
+        served = λ a m. v .served a (rest-in w r (k .node .root) (s .rest) a m);
         rising = rest-rising w r (k .node .root) (s .rest) (v .rising);
         cover = next-covers;
         lead = next-leads;
@@ -195,10 +173,10 @@ module _ {Path Constraint : Type 0} (w : Problem Path Constraint) (r : Rules Pat
   plan-listed a qs p = L .assignments-all a (p .assigned) (λ i h. (_, p .legal i h))
 
   pub start-inv : (a : List ℕ) (l : List (List ℕ)) → w .assignments ≡ a ∷ l → 1 ≤ limit
-      → Inv w r limit (record { opened = rootOf w a ∷ []; made = 1; rest = l }) 0
+      → Invariant w r limit (record { opened = rootOf w a ∷ []; made = 1; rest = l }) 0
   start-inv a l e room = record {
-    in-order = λ x m. let g = listed a (here refl) in rw (only m) (root-in-order w r L a (g .0) (g .1));
-    good = λ b m. listed b (there m);
+    nodes = λ x m. let g = listed a (here refl) in rw (only m) (root-is-node w r L a (g .0) (g .1));
+    served = λ b m. listed b (there m);
     rising = up .1;
     cover = λ b qs p. ⊎-elim (λ q. inl (rootOf w a, here refl, rw q (root-covers w r a qs))) (λ m. inr m) (cases-cons (rw e at (plan-listed b qs p)));
     lead = λ b m. (rootOf w a, here refl, refl, up .0 b m);
@@ -206,7 +184,7 @@ module _ {Path Constraint : Type 0} (w : Problem Path Constraint) (r : Rules Pat
     within = room;
   }
     where
-      listed : Good w r (a ∷ l)
+      listed : AllServed w r (a ∷ l)
       listed b m = L .assignments-sound b (rw e m)
 
       up : Rising w r (a ∷ l)
@@ -219,9 +197,9 @@ module _ {Path Constraint : Type 0} (w : Problem Path Constraint) (r : Rules Pat
   -- what a turn comes to, after t nodes were taken
   abbrev pub TurnRight : ℕ → Turn Path Constraint → Type 0
   TurnRight t (done a) = Right w r Near a
-  TurnRight t (more s) = Inv w r limit s (suc t)
+  TurnRight t (more s) = Invariant w r limit s (suc t)
 
-  module _ (s : State Path Constraint) (t : ℕ) (v : Inv w r limit s t) (k : Selected Path Constraint) (ch : Chosen Near (s .opened) k) where
+  module _ (s : State Path Constraint) (t : ℕ) (v : Invariant w r limit s t) (k : Selected Path Constraint) (ch : Chosen Near (s .opened) k) where
     extend-right : (cc : Constraint × Constraint) → Splits w r (k .node .paths) (some cc)
         → (b : Bool) → leb (s .made + length (toMake w (k .node) cc (s .rest))) limit ≡ b
         → TurnRight t (extend w limit choose s k (toMake w (k .node) cc (s .rest)) b)
@@ -230,7 +208,7 @@ module _ {Path Constraint : Type 0} (w : Problem Path Constraint) (r : Rules Pat
 
     expand-right : (o : Option (Constraint × Constraint)) → Splits w r (k .node .paths) o → TurnRight t (expand w limit choose s k o)
     expand-right none apart =
-        let o = node-in-order w r L limit Near s t v k ch in (
+        let o = taken-is-node w r L limit Near s t v k ch in (
           record { assigned = o .assigned; a-path-each = o .a-path-each; legal = legals w r o; apart = apart },
           o .cost-is,
           ch .near,
@@ -238,24 +216,24 @@ module _ {Path Constraint : Type 0} (w : Problem Path Constraint) (r : Rules Pat
         )
     expand-right (some cc) sp = extend-right cc sp (leb (s .made + length (toMake w (k .node) cc (s .rest))) limit) refl
 
-  turn-with-right : (s : State Path Constraint) (t : ℕ) → Inv w r limit s t → (o : Option (Selected Path Constraint)) → Picked Near (s .opened) o
+  turn-with-right : (s : State Path Constraint) (t : ℕ) → Invariant w r limit s t → (o : Option (Selected Path Constraint)) → Picked Near (s .opened) o
       → TurnRight t (turnWith w limit choose s o)
   turn-with-right s t v none e = λ a qs p. let u = open-below w r limit L s t v a qs p in not-nil (subst (Mem (u .0)) e (u .1))
   turn-with-right s t v (some k) ch = expand-right s t v k ch (w .collision (k .node .paths)) (node-splits w r L limit Near s t v k ch)
 
   -- One turn keeps the invariant, or its answer is right
-  pub turn-right : (s : State Path Constraint) (t : ℕ) → Inv w r limit s t → TurnRight t (turn w limit choose s)
+  pub turn-right : (s : State Path Constraint) (t : ℕ) → Invariant w r limit s t → TurnRight t (turn w limit choose s)
   turn-right s t v = turn-with-right s t v (choose (s .opened)) (picks (s .opened))
 
   -- the answer is there and is right
   abbrev pub Answered : Option (Answer Path) → Type 0
   Answered o = (a : Answer Path) × (o ≡ some a) × Right w r Near a
 
-  pub run-right : (f t : ℕ) (s : State Path Constraint) → Inv w r limit s t → limit < f + t → Answered (run w limit choose f s)
+  pub run-right : (f t : ℕ) (s : State Path Constraint) → Invariant w r limit s t → limit < f + t → Answered (run w limit choose f s)
   run-right zero t s v l = absurd (omega (arith, v .counted, v .within))
   run-right (suc f) t s v l = go (turn w limit choose s) (turn-right s t v) (λ u i. run-right f (suc t) u i (omega arith))
     where
-      go : (o : Turn Path Constraint) → TurnRight t o → ((u : State Path Constraint) → Inv w r limit u (suc t) → Answered (run w limit choose f u))
+      go : (o : Turn Path Constraint) → TurnRight t o → ((u : State Path Constraint) → Invariant w r limit u (suc t) → Answered (run w limit choose f u))
           → Answered (onward w limit choose (run w limit choose f) o)
       go (done a) h again = (a, refl, h)
       go (more u) h again = again u h

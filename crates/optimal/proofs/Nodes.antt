@@ -1,6 +1,6 @@
--- A node is in order if each of its paths is least under its constraints. The root of a served assignment is in order, and so are
--- the children of a node in order; its cost is at most the flowtime of each plan that it covers; and a plan that it covers and
--- that keeps one more constraint is covered by the child with that constraint. Assumes nothing.
+-- The root of a served assignment is a node, and so are the children of a node; its cost is at most the flowtime of each plan that
+-- it covers; and a plan that it covers and that keeps one more constraint is covered by the child with that constraint. Assumes
+-- nothing.
 use Prim.Native.Nat.{ℕ, _≤_, _<_}
 use mathlib.Core.Path.{_≡_, refl, _∙_}
 use mathlib.Core.Logic.{_≢_, ⊎-elim}
@@ -8,29 +8,19 @@ use mathlib.Core.List.{List, [], _∷_, List·Memᴰ as Mem, List·Memᴰ·head 
 use mathlib.Core.Option.{Option, none, some}
 use native.Mathlib.Nat.{le-refl}
 use native.Mathlib.Decide.{ℕ-discrete}
-use lib.ListN.{length, set, length-set}
+use lib.ListN.{set, length-set}
 use Rattle.deck.specs.Search.{Problem, Node, taskOf, pathAt, flowtime, pathOr, rootOf, childWith, childNode, child}
+use Rattle.meaning.proofs.Lists.{length-below, getD-below}
 use Rattle.optimal.specs.Plans.{Rules, Legals, IsPlan, Fits, KeepsAll, KeepsOwn, Under, IsLeast, Served, Laws}
-use Rattle.optimal.proofs.Sums.{sum-le, length-below, getD-below, set-all}
+use Rattle.optimal.specs.Nodes.{IsNode, Covers}
+use Rattle.optimal.proofs.Sums.{sum-le, set-all}
 
 module _ {Path Constraint : Type 0} (w : Problem Path Constraint) (r : Rules Path Constraint) where
-  pub record InOrder (n : Node Path Constraint) : Type 0 where
-    pub assigned : r .IsAsg (n .tasks)
-    pub fits : Fits w r (n .constraints)
-    pub a-path-each : length (n .paths) ≡ w .count
-    pub least : (i : ℕ) → i < w .count → IsLeast w r i (taskOf w (n .tasks) i) (n .constraints) (some (pathAt w (n .paths) i))
-    pub cost-is : n .cost ≡ flowtime w (n .tasks) (n .paths)
-
-  -- the node has the plan's assignment, and the plan keeps the node's constraints
-  pub record Covers (n : Node Path Constraint) (a : List ℕ) (qs : List Path) : Type 0 where
-    pub same : n .tasks ≡ a
-    pub keeps : (i : ℕ) → i < w .count → KeepsAll w r i (pathAt w qs i) (n .constraints)
-
-  pub legals : {n : Node Path Constraint} → InOrder n → Legals w r (n .tasks) (n .paths)
+  pub legals : {n : Node Path Constraint} → IsNode w r n → Legals w r (n .tasks) (n .paths)
   legals o i h = o .least i h .0 .0
 
   -- a node costs at most as much as each plan that it covers
-  pub covered-cost : (n : Node Path Constraint) (a : List ℕ) (qs : List Path) → InOrder n → IsPlan w r a qs → Covers n a qs
+  pub covered-cost : (n : Node Path Constraint) (a : List ℕ) (qs : List Path) → IsNode w r n → IsPlan w r a qs → Covers w r n a qs
       → n .cost ≤ flowtime w a qs
   covered-cost n a qs o p v =
       rw (o .cost-is, ← v .same)
@@ -42,7 +32,7 @@ module _ {Path Constraint : Type 0} (w : Problem Path Constraint) (r : Rules Pat
   no-keeps : (i : ℕ) (q : Path) → KeepsAll w r i q []
   no-keeps i q c m = absurd (not-nil m)
 
-  pub root-covers : (a : List ℕ) (qs : List Path) → Covers (rootOf w a) a qs
+  pub root-covers : (a : List ℕ) (qs : List Path) → Covers w r (rootOf w a) a qs
   root-covers a qs = record { same = refl; keeps = λ i h. no-keeps i (pathAt w qs i) }
 
   -- where there is a legal path, the least path without constraints is there
@@ -52,8 +42,8 @@ module _ {Path Constraint : Type 0} (w : Problem Path Constraint) (r : Rules Pat
   root-least i j q g (some p) h = h
 
 module _ {Path Constraint : Type 0} (w : Problem Path Constraint) (r : Rules Path Constraint) (L : Laws w r) where
-  pub root-in-order : (a : List ℕ) → r .IsAsg a → Served w r a → InOrder w r (rootOf w a)
-  root-in-order a ok serve = record {
+  pub root-is-node : (a : List ℕ) → r .IsAsg a → Served w r a → IsNode w r (rootOf w a)
+  root-is-node a ok serve = record {
     assigned = ok;
     fits = no-fits w r;
     a-path-each = length-below (w .count) _;
@@ -64,8 +54,8 @@ module _ {Path Constraint : Type 0} (w : Problem Path Constraint) (r : Rules Pat
     cost-is = refl;
   }
 
-  -- The child of a node in order by the constraint c
-  module _ (n : Node Path Constraint) (o : InOrder w r n) (c : Constraint) (fit : r .Fit c) where
+  -- The child of a node by the constraint c
+  module _ (n : Node Path Constraint) (o : IsNode w r n) (c : Constraint) (fit : r .Fit c) where
     abbrev at-bound : ℕ
     at-bound = w .bound c
 
@@ -100,8 +90,8 @@ module _ {Path Constraint : Type 0} (w : Problem Path Constraint) (r : Rules Pat
         → (i : ℕ) → i < w .count → P i (pathAt w (set (n .paths) at-bound p) i)
     child-paths P p = set-all P (w .count) (n .paths) at-bound p (w .noPath) (rw (o .a-path-each) bound-below)
 
-    node-in-order : (p : Path) → IsLeast w r at-bound own-task bars (some p) → InOrder w r (childNode w n c p)
-    node-in-order p h = record {
+    new-is-node : (p : Path) → IsLeast w r at-bound own-task bars (some p) → IsNode w r (childNode w n c p)
+    new-is-node p h = record {
       assigned = o .assigned;
       fits = child-fits;
       a-path-each = length-set (n .paths) at-bound p ∙ o .a-path-each;
@@ -128,8 +118,8 @@ module _ {Path Constraint : Type 0} (w : Problem Path Constraint) (r : Rules Pat
         go none h m = absurd (not-nil m)
         go (some p) h m = rw (only m) (f p h)
 
-    pub child-in-order : (x : Node Path Constraint) → Mem x (child w n c) → InOrder w r x
-    child-in-order = each-child (InOrder w r) node-in-order
+    pub child-is-node : (x : Node Path Constraint) → Mem x (child w n c) → IsNode w r x
+    child-is-node = each-child (IsNode w r) new-is-node
 
     -- a child costs at least as much as its parent
     pub child-cost : (x : Node Path Constraint) → Mem x (child w n c) → n .cost ≤ x .cost

@@ -11,8 +11,10 @@ use lib.Dec.{leb, leb→le, nleb→lt}
 use lib.ListN.{length}
 use Rattle.deck.specs.Search.{Problem, Node, State, Selected, Answer, plan, noPlan, spent, Turn, toMake, grown, extend, expand, turnWith, onward, run, searchFrom, searched, cheapest}
 use Rattle.optimal.specs.Plans.{Rules, Splits, Laws}
-use Rattle.optimal.proofs.Nodes.{InOrder, child-cost}
-use Rattle.optimal.proofs.Invariant.{Chosen, Picked, Inv, each-root, each-next, node-in-order, node-splits, next-inv, start-inv}
+use Rattle.optimal.specs.Nodes.{IsNode}
+use Rattle.optimal.specs.Invariant.{Invariant}
+use Rattle.optimal.proofs.Nodes.{child-cost}
+use Rattle.optimal.proofs.Invariant.{Chosen, Picked, each-root, each-next, taken-is-node, node-splits, next-inv, start-inv}
 use Rattle.optimal.proofs.Select.{cheapest-picks}
 
 module _ {Path : Type 0} where
@@ -35,17 +37,17 @@ module _ {Path Constraint : Type 0} (w : Problem Path Constraint) (r : Rules Pat
   abbrev Above : ℕ → List (Node Path Constraint) → Type 0
   Above c l = (x : Node Path Constraint) → Mem x l → c ≤ x .cost
 
-  module _ (limit : ℕ) (s : State Path Constraint) (t : ℕ) (v : Inv w r limit s t) (k : Selected Path Constraint) (ch : Chosen _≡_ (s .opened) k) where
+  module _ (limit : ℕ) (s : State Path Constraint) (t : ℕ) (v : Invariant w r limit s t) (k : Selected Path Constraint) (ch : Chosen _≡_ (s .opened) k) where
     abbrev new : Constraint × Constraint → List (Node Path Constraint)
     new cc = toMake w (k .node) cc (s .rest)
 
-    ordered : InOrder w r (k .node)
-    ordered = node-in-order w r L limit _≡_ s t v k ch
+    is-node : IsNode w r (k .node)
+    is-node = taken-is-node w r L limit _≡_ s t v k ch
 
     split : Splits w r (k .node .paths) (w .collision (k .node .paths))
     split = node-splits w r L limit _≡_ s t v k ch
 
-    keeps-inv : (cc : Constraint × Constraint) → Splits w r (k .node .paths) (some cc) → s .made + length (new cc) ≤ limit → Inv w r limit (grown w s k (new cc)) (suc t)
+    keeps-inv : (cc : Constraint × Constraint) → Splits w r (k .node .paths) (some cc) → s .made + length (new cc) ≤ limit → Invariant w r limit (grown w s k (new cc)) (suc t)
     keeps-inv = next-inv w r L limit _≡_ s t v k ch
 
     -- so it stays
@@ -54,17 +56,17 @@ module _ {Path Constraint : Type 0} (w : Problem Path Constraint) (r : Rules Pat
         each-next w r (λ x. c ≤ x .cost) k cc (s .rest)
         (λ x m. up x (ch .out .among x m))
         (each-root w r (λ x. c ≤ x .cost) (k .node .root) (s .rest) (λ a m. let u = v .lead a m in le-trans (up (u .0) (u .1)) (u .3)))
-        (λ x m. le-trans (up (k .node) (ch .out .taken)) (child-cost w r L (k .node) ordered (cc .0) (sp .0) x m))
-        (λ x m. le-trans (up (k .node) (ch .out .taken)) (child-cost w r L (k .node) ordered (cc .1) (sp .1) x m))
+        (λ x m. le-trans (up (k .node) (ch .out .taken)) (child-cost w r L (k .node) is-node (cc .0) (sp .0) x m))
+        (λ x m. le-trans (up (k .node) (ch .out .taken)) (child-cost w r L (k .node) is-node (cc .1) (sp .1) x m))
 
   -- from a state whose open nodes cost at least c the answer is at least c
   module _ (limit : ℕ) (c : ℕ) where
-    floor-run : (f t : ℕ) (s : State Path Constraint) → Inv w r limit s t → limit < f + t → Above c (s .opened) → Floor c (run w limit cheapest f s)
+    floor-run : (f t : ℕ) (s : State Path Constraint) → Invariant w r limit s t → limit < f + t → Above c (s .opened) → Floor c (run w limit cheapest f s)
     floor-run zero t s v l up = omega (arith, v .counted, v .within)
     floor-run (suc f) t s v l up = by-choice (cheapest (s .opened)) (cheapest-picks (s .opened)) (λ u i h. floor-run f (suc t) u i (omega arith) h)
       where
         Again : Type 0
-        Again = (u : State Path Constraint) → Inv w r limit u (suc t) → Above c (u .opened) → Floor c (run w limit cheapest f u)
+        Again = (u : State Path Constraint) → Invariant w r limit u (suc t) → Above c (u .opened) → Floor c (run w limit cheapest f u)
 
         Goal : Turn Path Constraint → Type 0
         Goal x = Floor c (onward w limit cheapest (run w limit cheapest f) x)
@@ -85,10 +87,10 @@ module _ {Path Constraint : Type 0} (w : Problem Path Constraint) (r : Rules Pat
         by-choice (some k) ch again = by-collision k ch (w .collision (k .node .paths)) (split limit s t v k ch) again
 
   module _ (limit larger : ℕ) (more-room : limit ≤ larger) where
-    wider : (s : State Path Constraint) (t : ℕ) → Inv w r limit s t → Inv w r larger s t
+    wider : (s : State Path Constraint) (t : ℕ) → Invariant w r limit s t → Invariant w r larger s t
     wider s t v = record {
-      in-order = v .in-order;
-      good = v .good;
+      nodes = v .nodes;
+      served = v .served;
       rising = v .rising;
       cover = v .cover;
       lead = v .lead;
@@ -96,7 +98,7 @@ module _ {Path Constraint : Type 0} (w : Problem Path Constraint) (r : Rules Pat
       within = le-trans (v .within) more-room;
     }
 
-    raise-run : (f g t : ℕ) (s : State Path Constraint) → Inv w r limit s t → limit < f + t → larger < g + t
+    raise-run : (f g t : ℕ) (s : State Path Constraint) → Invariant w r limit s t → limit < f + t → larger < g + t
         → Raised (run w limit cheapest f s) (run w larger cheapest g s)
     raise-run zero g t s v l h = omega (arith, v .counted, v .within)
     raise-run (suc f) zero t s v l h = absurd (omega (arith, v .counted, v .within))
@@ -104,7 +106,7 @@ module _ {Path Constraint : Type 0} (w : Problem Path Constraint) (r : Rules Pat
         by-choice (cheapest (s .opened)) (cheapest-picks (s .opened)) (λ u i. raise-run f g (suc t) u i (omega arith) (omega arith))
       where
         Again : Type 0
-        Again = (u : State Path Constraint) → Inv w r limit u (suc t) → Raised (run w limit cheapest f u) (run w larger cheapest g u)
+        Again = (u : State Path Constraint) → Invariant w r limit u (suc t) → Raised (run w limit cheapest f u) (run w larger cheapest g u)
 
         -- what both come to, by what the turn comes to under each limit
         Goal : Turn Path Constraint → Turn Path Constraint → Type 0

@@ -1,14 +1,14 @@
--- Sums and tables over the numbers below n, and lists in which one element is set. Assumes nothing.
-use Prim.Native.Nat.{ℕ, _+_, _≤_, _<_, zero-le}
-use mathlib.Core.Path.{_≡_, refl, sym, ap, _∙_}
+-- Sums over the numbers below n, and lists in which one element is set. Assumes nothing.
+use Prim.Native.Nat.{ℕ, _≤_, _<_, zero-le}
+use mathlib.Core.Path.{_≡_, refl}
 use mathlib.Core.Logic.{_≢_}
 use mathlib.Core.List.{List, [], _∷_, map, List·Memᴰ as Mem, List·Memᴰ·head as here, List·Memᴰ·tail as there}
 use native.Mathlib.Decide.{ℕ-discrete}
 use native.Mathlib.Omega.{arith}
-use lib.ListN.{length, getD, set, length-map}
-use lib.Seq.{ext-getD, getD-set-same, getD-set-other}
+use lib.ListN.{length, getD, set}
+use lib.Seq.{getD-set-same, getD-set-other}
 use Rattle.deck.specs.Lists.{below, sum}
-use Rattle.meaning.proofs.Lists.{mem-below, length-countFrom, getD-tabulate}
+use Rattle.meaning.proofs.Lists.{mem-below}
 
 sum-map-le : (l : List ℕ) (f g : ℕ → ℕ) → ((i : ℕ) → Mem i l → f i ≤ g i) → sum (map f l) ≤ sum (map g l)
 sum-map-le [] f g h = zero-le
@@ -17,19 +17,6 @@ sum-map-le (x ∷ l) f g h = omega (arith, h x (here refl), sum-map-le l f g (λ
 -- a sum grows with its terms
 pub sum-le : (n : ℕ) (f g : ℕ → ℕ) → ((i : ℕ) → i < n → f i ≤ g i) → sum (map f (below n)) ≤ sum (map g (below n))
 sum-le n f g h = sum-map-le (below n) f g (λ i m. h i (mem-below n .0 m))
-
-pub length-below : {A : Type 0} (n : ℕ) (f : ℕ → A) → length (map f (below n)) ≡ n
-length-below n f = length-map (below n) f ∙ length-countFrom 0 n
-
-pub getD-below : {A : Type 0} (n : ℕ) (f : ℕ → A) (i : ℕ) (d : A) → i < n → getD (map f (below n)) i d ≡ f i
-getD-below n f i d h = let e : 0 + i ≡ i = omega arith in getD-tabulate f 0 n i d h ∙ ap f e
-
--- the sum of a list is that of its elements by index
-pub sum-by-index : (l : List ℕ) (n : ℕ) → length l ≡ n → sum l ≡ sum (map (λ i. getD l i 0) (below n))
-sum-by-index l n e =
-    ap sum
-    (ext-getD 0 l (map (λ i. getD l i 0) (below n)) (e ∙ sym (length-below n (λ i. getD l i 0)))
-    (λ i h. sym (getD-below n (λ i. getD l i 0) i 0 (rw e at h))))
 
 -- what holds at k of the new element, and elsewhere of the old ones, holds of the list in which k is set
 pub set-all : {A : Type 0} (P : ℕ → A → Type 0) (n : ℕ) (l : List A) (k : ℕ) (x d : A) → k < length l → P k x

@@ -10,7 +10,8 @@ use lib.ListN.{length}
 use Rattle.deck.specs.Lists.{countFrom, each}
 use Rattle.deck.specs.Assignments.{assignmentsInOrder, leastAssignment}
 use Rattle.meaning.specs.Meaning.{_at_, Assignment, Unbarred, Less}
-use Rattle.meaning.proofs.Lists.{mem-each, each-mem, mem-countFrom, countFrom-mem, Sorted, sorted-append}
+use Rattle.meaning.specs.Sorted.{Sorted}
+use Rattle.meaning.proofs.Lists.{mem-each, each-mem, mem-countFrom, countFrom-mem, sorted-append}
 use Rattle.meaning.proofs.Assignments.{in-order-meant, in-order-rising, least-assignment-meant}
 use Rattle.prices.proofs.First.{less-asym, less-trans, is-least}
 use Rattle.partition.specs.Parts.{Part, InPart, candidate, noneClosed, wholePart, slotPart, Slot, slotWith, slotsOf, Apart, Holds, Best, HandsOut, ends, takes}

@@ -12,7 +12,7 @@ use lib.Dec.{eqb, ltb}
 use Rattle.deck.specs.Lists.{below, countFrom, all, select, each, headOf}
 use Rattle.deck.specs.Assignments.{barred, entryAt, assignmentsInOrder}
 use Rattle.meaning.specs.Meaning.{_at_, Unbarred, Less}
-use Rattle.meaning.proofs.Lists.{Sorted}
+use Rattle.meaning.specs.Sorted.{Sorted}
 use Rattle.prices.specs.Square.{square}
 
 -- A part: the carriers before carrier `row` have these tasks; carrier `row` has no task whose word in `closed` is not 0

@@ -7,7 +7,7 @@ ghost use Prim.Native.Nat.{suc, _<_, _≤_};
 ghost use lib.ListN.{length, drop};
 ghost use Rattle.deck.specs.Lists.{isNil};
 ghost use Rattle.deck.specs.Sheet.{read, cause, widthOf, horizonOf, goalsOf};
-ghost use Rattle.deck.specs.Paths.{oneApart, nextTo, mayStep, visit, left, finish as finishOn};
+ghost use Rattle.deck.specs.Paths.{oneApart, nextTo, mayStep, visit, left, finish as finishOn, finishOf};
 ghost use Rattle.deck.specs.PlanCheck.{follows};
 ghost use Rattle.path_check.specs.Answers.{pathAnswer};
 
@@ -96,7 +96,7 @@ fn visits_all(s: &[u8], j: Task, path: &[u16]) -> bool
 }
 
 // The least time from which the path stays on g; the length of the path where there is none.
-pub fn finish(path: &[u16], g: usize) -> usize
+fn finish(path: &[u16], g: usize) -> usize
     ensures { λ r. ⌜ r ≡ finishOn g (now (path .entry)) ⌝ }
 {
     let mut t = path.len();
@@ -107,6 +107,13 @@ pub fn finish(path: &[u16], g: usize) -> usize
         t = t - 1;
     }
     t
+}
+
+// The finish of a path of the task: the one place where it is computed from the places.
+pub fn finish_of(s: &[u8], j: Task, path: &[u16]) -> usize
+    ensures { λ r. ⌜ r ≡ finishOf (read (now (s .entry))) j (now (path .entry)) ⌝ }
+{
+    finish(path, sheet::last_goal(s, j))
 }
 
 // The finish of the path if it is one of the carrier for the task on a sheet of width w and horizon h.
@@ -123,7 +130,7 @@ pub fn path_finish(s: &[u8], w: usize, h: usize, i: Carrier, j: Task, path: &[u1
     if !visits_all(s, j, path) {
         return PathAnswer::NoPath;
     }
-    let t = finish(path, sheet::last_goal(s, j));
+    let t = finish_of(s, j, path);
     if h < t {
         return PathAnswer::NoPath;
     }

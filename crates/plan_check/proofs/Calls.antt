@@ -9,10 +9,12 @@ use lib.ListN.{length, take, drop}
 use lib.Dec.{eqb}
 use borrow.Author.Tests.{eq-eqb, ne-eqb, eqb-true}
 use Rattle.deck.specs.Causes.{wrongLength}
-use Rattle.deck.specs.Lists.{all, isNil, sum, pieces}
+use Rattle.deck.specs.Lists.{all, isNil, pieces}
 use Rattle.deck.specs.Sheet.{read, cause, widthOf, countOf, horizonOf, unless, _orElse_}
 use Rattle.deck.specs.Collisions.{collisions}
-use Rattle.deck.specs.PlanCheck.{isAssignment, arePaths, isPlan, finishes, planCheck}
+use Rattle.deck.specs.Search.{flowtime}
+use Rattle.deck.specs.Planner.{problem}
+use Rattle.deck.specs.PlanCheck.{isAssignment, arePaths, isPlan, planCheck}
 use Rattle.deck.specs.Calls.{readingFor, readCall, planWords, checkCause, checkFound, checkFor, checkCall}
 use Rattle.deck.specs.Numbers.{checkNumbers}
 use Rattle.deck.specs.declared.CheckAnswer.{CheckAnswer}
@@ -79,7 +81,7 @@ module _ (s tasks ws : List ℕ) where
   apart = isNil (collisions (countOf s) (horizonOf s) ps)
 
   abbrev flow : ℕ
-  flow = sum (finishes (read s) a ps)
+  flow = flowtime (problem (read s)) a ps
 
   -- the definition's answer is the one that is meant
   meant : Meant s tasks ws (checkCall s tasks ws)

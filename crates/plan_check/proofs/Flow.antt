@@ -2,17 +2,17 @@
 use Prim.Native.Nat.{ℕ, zero, suc, _+_, _-_, _*_, _≤_, _<_}
 use mathlib.Core.Path.{_≡_, refl, sym, ap, subst, _∙_}
 use mathlib.Core.Bool.{Bool, true, false, _&&_, cond}
-use mathlib.Core.List.{List, [], _∷_}
+use mathlib.Core.List.{List, [], _∷_, map}
 use mathlib.Core.Option.{Option, none, some}
 use native.Mathlib.Omega.{arith}
 use native.Mathlib.Numerals.{add-one}
 use lib.ListN.{length, getD, take, drop, length-take, length-drop}
 use lib.Dec.{T}
-use Rattle.deck.specs.Lists.{isNil, sum, pieces, headOf}
+use Rattle.deck.specs.Lists.{countFrom, isNil, sum, pieces, headOf}
 use Rattle.deck.specs.Sheet.{Sheet, carrier, task}
 use Rattle.deck.specs.Paths.{finishOf}
 use Rattle.deck.specs.Collisions.{collisions, firstCollision}
-use Rattle.deck.specs.PlanCheck.{isPath, arePaths, finishes}
+use Rattle.deck.specs.PlanCheck.{isPath, arePaths}
 use Rattle.deck.specs.Calls.{collisionFound}
 use Rattle.deck.specs.declared.Carrier.{Carrier}
 use Rattle.deck.specs.declared.Task.{Task}
@@ -23,6 +23,7 @@ use Rattle.deck.specs.declared.PathAnswer.the-variants.{Found, NoPath, Refused}
 use Rattle.deck.specs.declared.CheckAnswer.{CheckAnswer}
 use Rattle.deck.specs.declared.CheckAnswer.the-variants.{Yes, No}
 use Rattle.meaning.proofs.Paths.{is-path-meant}
+use Rattle.meaning.proofs.Flowtime.{finishAt, finishes, flowtime-sum}
 use Rattle.collision_scan.proofs.Words.{piece-at}
 use Rattle.path_check.specs.Answers.{pathAnswer}
 use Rattle.path_check.proofs.Parts.{rest-next, rest-none}
@@ -90,34 +91,44 @@ module _ (d : Sheet) (i : Carrier) (j : Task) (p : List ℕ) where
   pub path-small : (t : ℕ) {r : PathAnswer} → r ≡ pathAnswer d i j p → r ≡ Found t → t ≤ d .horizon
   path-small t q e = let k = path-found t (sym e ∙ q) in omega (arith, k .1, path-in-time (k .0))
 
+-- the finishes of n carriers from carrier i on
+abbrev finishesFrom : Sheet → List ℕ → List (List ℕ) → ℕ → ℕ → List ℕ
+finishesFrom d a ps i n = map (finishAt d a ps) (countFrom i n)
+
 -- the flowtime from carrier i on, where the carriers before have the flowtime f
 unfoldable pub flowFrom : Sheet → List ℕ → List (List ℕ) → ℕ → ℕ → CheckAnswer
-flowFrom d a ps f i = cond (arePaths d i (drop i a) (drop i ps)) (Yes (f + sum (finishes d (drop i a) (drop i ps)))) No
+flowFrom d a ps f i = cond (arePaths d i (drop i a) (drop i ps)) (Yes (f + sum (finishesFrom d a ps i (d .count - i)))) No
 
-module _ (d : Sheet) (a : List ℕ) (ps : List (List ℕ)) (m : ℕ) (la : length a ≡ m) (lp : length ps ≡ m) where
+module _ (d : Sheet) (a : List ℕ) (ps : List (List ℕ)) (m : ℕ) (lm : m ≡ d .count) (la : length a ≡ m) (lp : length ps ≡ m) where
   pub flow-start : flowAnswer d a ps ≡ flowFrom d a ps 0 0
   unfolding flowAnswer flowFrom
-  flow-start = let e : 0 + sum (finishes d a ps) ≡ sum (finishes d a ps) = omega arith in rw e
+  flow-start =
+      let n : d .count - 0 ≡ d .count = omega arith in
+      let e : 0 + sum (finishes d a ps) ≡ sum (finishes d a ps) = omega arith in
+      rw (flowtime-sum d a ps, n, e)
 
   pub flow-over : (f i : ℕ) → m ≤ i → flowFrom d a ps f i ≡ Yes f
-  unfolding flowFrom arePaths finishes
+  unfolding flowFrom arePaths
   flow-over f i h =
+      let n : d .count - i ≡ 0 = omega arith in
       let e : f + 0 ≡ f = omega arith in
-      rw (rest-none 0 a i (omega arith), rest-none [] ps i (omega arith), e)
+      rw (rest-none 0 a i (omega arith), rest-none [] ps i (omega arith), n, e)
 
   -- r is the answer for the words p of carrier i and its task j
   module _ (f i : ℕ) (l : i < m) {j : ℕ} {p : List ℕ} (ej : j ≡ getD a i 0) (ep : p ≡ getD ps i []) {r : PathAnswer} (q : r ≡ pathAnswer d (carrier i) (task j) p) where
     from-here : flowFrom d a ps f i
         ≡ cond (isPath d (carrier i) (task j) p && arePaths d (suc i) (drop (i + 1) a) (drop (i + 1) ps))
-        (Yes (f + (finishOf d (task j) p + sum (finishes d (drop (i + 1) a) (drop (i + 1) ps))))) No
-    unfolding flowFrom arePaths finishes
-    from-here = rw (rest-next 0 a i (omega arith), rest-next [] ps i (omega arith), ej, ep)
+        (Yes (f + (finishOf d (task j) p + sum (finishesFrom d a ps (suc i) (d .count - suc i))))) No
+    unfolding flowFrom arePaths
+    from-here =
+        let n : d .count - i ≡ suc (d .count - suc i) = omega arith in
+        rw (rest-next 0 a i (omega arith), rest-next [] ps i (omega arith), n, ej, ep)
 
     pub flow-next : (t : ℕ) → r ≡ Found t → flowFrom d a ps f i ≡ flowFrom d a ps (f + t) (i + 1)
     unfolding flowFrom
     flow-next t e =
         let k = path-found d (carrier i) (task j) p t (sym e ∙ q) in
-        let s = sum (finishes d (drop (i + 1) a) (drop (i + 1) ps)) in
+        let s = sum (finishesFrom d a ps (suc i) (d .count - suc i)) in
         let g : f + (finishOf d (task j) p + s) ≡ f + t + s = omega (arith, k .1) in
         from-here ∙ rw (k .0, g, add-one i)
 

@@ -3,8 +3,8 @@ use Prim.Native.Nat.{ℕ, suc, _≤_, _<_}
 use mathlib.Core.Path.{_≡_}
 use mathlib.Core.Logic.{_↔_}
 use mathlib.Core.List.{List}
-use lib.ListN.{length, getD, take}
-use Rattle.deck.specs.Lists.{sum, pieces}
+use lib.ListN.{length, take}
+use Rattle.deck.specs.Lists.{_at_, sum, pieces}
 use Rattle.deck.specs.Sheet.{read, cause, countOf, horizonOf}
 use Rattle.deck.specs.Calls.{planWords}
 use Rattle.deck.specs.declared.CheckAnswer.{CheckAnswer}
@@ -16,7 +16,7 @@ use Rattle.meaning.specs.Meaning.{Plan}
 pub record PlanFor (s tasks ws : List ℕ) (f : ℕ) : Type 0 where
   pub accepted : cause s ≡ 0
   pub exact : length ws ≡ planWords (read s)
-  pub rest : (k : ℕ) → countOf s ≤ k → k < length tasks → getD tasks k 0 ≡ 255
+  pub rest : (k : ℕ) → countOf s ≤ k → k < length tasks → tasks at k ≡ 255
   pub finishes : List ℕ
   pub plan : Plan (read s) (take (countOf s) tasks) (pieces (countOf s) (suc (horizonOf s)) ws) finishes
   pub flowtime : sum finishes ≡ f

@@ -26,15 +26,17 @@ use Rattle.deck.specs.declared.CollisionAnswer.the-variants.{Found, NoCollision
 use Rattle.deck.specs.declared.CheckAnswer.{CheckAnswer}
 use Rattle.deck.specs.declared.CheckAnswer.the-variants.{Yes, No, Refused as CheckRefused}
 use Rattle.meaning.specs.Meaning.{_at_}
+use Rattle.meaning.proofs.Lists.{length-below, getD-below}
 use Rattle.meaning.proofs.LeastPath.{LeastMeant, least-path-meant}
 use Rattle.meaning.proofs.Accepted.{accepted, header-says, accepted-limit, accepted-horizon, accepted-start}
 use Rattle.meaning.proofs.Assignments.{Least, least-assignment, entries-length, entries-at}
 use Rattle.optimal.specs.Plans.{Laws}
-use Rattle.optimal.proofs.Sums.{length-below, getD-below}
-use Rattle.optimal.proofs.Nodes.{InOrder}
-use Rattle.optimal.proofs.Invariant.{Chosen, Picked, Inv, start-inv, TurnRight, turn-right}
+use Rattle.optimal.specs.Nodes.{IsNode}
+use Rattle.optimal.specs.Invariant.{Invariant}
+use Rattle.optimal.specs.Deck.{rules}
+use Rattle.optimal.proofs.Invariant.{Chosen, Picked, start-inv, TurnRight, turn-right}
 use Rattle.optimal.proofs.Select.{cheapest-picks}
-use Rattle.optimal.proofs.Deck.{rules, laws}
+use Rattle.optimal.proofs.Deck.{laws}
 use Rattle.prices.proofs.Growth.{lower}
 use Rattle.collision.specs.Meant.{Meant as CollisionMeant}
 use Rattle.collision_scan.proofs.Words.{place-in}
@@ -179,7 +181,7 @@ module _ (s : List ℕ) (ok : cause s ≡ 0) where
   d = read s
 
   abbrev Kept : State (List ℕ) Constraint → ℕ → Type 0
-  Kept st t = Inv (problem d) (rules d) (d .limit) st t
+  Kept st t = Invariant (problem d) (rules d) (d .limit) st t
 
   the-laws : Laws (problem d) (rules d)
   the-laws = laws d (accepted-start s ok) (omega (arith, accepted-horizon s ok))
@@ -188,7 +190,7 @@ module _ (s : List ℕ) (ok : cause s ≡ 0) where
   limit-small = omega (arith, header-says s .fact (accepted s ok .header) .0 .0 .1 .1)
 
   -- at most twelve finishes of at most 255
-  cost-small : (n : Node (List ℕ) Constraint) → InOrder (problem d) (rules d) n → n .cost < word
+  cost-small : (n : Node (List ℕ) Constraint) → IsNode (problem d) (rules d) n → n .cost < word
   unfolding problem
   cost-small n o = omega (arith, o .cost-is, sum-small (map finish-at (below (d .count))) few finish)
     where
@@ -209,7 +211,7 @@ module _ (s : List ℕ) (ok : cause s ≡ 0) where
 
     module _ (k : Selected (List ℕ) Constraint) (ch : Chosen _≡_ (st .opened) k) where
       taken-small : k .node .cost < word
-      taken-small = cost-small (k .node) (v .in-order (k .node) (ch .out .taken))
+      taken-small = cost-small (k .node) (v .nodes (k .node) (ch .out .taken))
 
       bound-small : k .bound < word
       bound-small = omega (arith, taken-small, ch .below (k .node) (ch .out .taken))

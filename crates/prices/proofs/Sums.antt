@@ -13,7 +13,8 @@ use borrow.Author.Tests.{eqb-true, eqb-false, ne-eqb, eq-eqb}
 use Rattle.deck.specs.Lists.{below, countFrom, select, sum}
 use Rattle.deck.specs.Assignments.{arrangements, assignments}
 use Rattle.meaning.specs.Meaning.{_at_, Assignment}
-use Rattle.meaning.proofs.Lists.{mem-map, mem-each, mem-below, getD-tabulate, length-countFrom, Sorted, sorted-select, sorted-countFrom}
+use Rattle.meaning.specs.Sorted.{Sorted}
+use Rattle.meaning.proofs.Lists.{mem-map, mem-each, mem-below, getD-tabulate, length-countFrom, sorted-select, sorted-countFrom}
 use Rattle.meaning.proofs.Assignments.{assignment-mem}
 
 module _ (f g : ℕ → ℕ) where

@@ -14,8 +14,8 @@ use Rattle.meaning.specs.Meaning.{_at_}
 use Rattle.partition.proofs.Splits.{none-closed}
 use Rattle.records.specs.Record.{fields, fieldsAt, rowIn, slotIn, rootFields, withPath, Wrote}
 use Rattle.nodes.specs.Nodes.{nodeAt, openedAt}
-use Rattle.nodes.specs.Stored.{Stored, RootSoFar}
-use Rattle.nodes.proofs.Kept.{Alike, alike-same, slot-alike, kept-stored, kept-nodes, kept-opened}
+use Rattle.nodes.specs.Stored.{Stored, RootSoFar, NodeAlike}
+use Rattle.nodes.proofs.Kept.{alike-same, slot-alike, kept-stored, kept-nodes, kept-opened}
 use Rattle.roots.specs.Slots.{slotHere, rootSlots, slotsAt, Rooted, PartsHold, RootMade}
 use Rattle.roots.specs.Choices.{Cleared}
 use Rattle.roots.specs.Tournament.{ownAt, Tournament, OnlyTournament, SlotsHold}
@@ -46,7 +46,7 @@ module _ (m : ℕ) (table mid after final : List ℕ) (made : ℕ) (tasks : List
       }
 
   -- the node of another number is as it was
-  node-kept : (before : List ℕ) (k : ℕ) → Alike (fieldsAt after k) (fieldsAt before k) → Alike (fieldsAt final k) (fieldsAt before k)
+  node-kept : (before : List ℕ) (k : ℕ) → NodeAlike (fieldsAt after k) (fieldsAt before k) → NodeAlike (fieldsAt final k) (fieldsAt before k)
   node-kept before k a =
       record {
         link = q .fields k 0 (λ z. omega arith) ∙ a .link;
@@ -157,7 +157,7 @@ slots-kept-records m table before after latest rest e = slots-kept m table befor
 
 -- THE NODES are as they were when a root is begun
 module _ (d : Sheet) (limit : ℕ) (before after : List ℕ) (made : ℕ) (tasks : List ℕ) (s : Stored d limit before made) (b : made < limit) (r : RootBegun before after made tasks) where
-  alike-nodes : (k : ℕ) → k < made → Alike (fieldsAt after k) (fieldsAt before k)
+  alike-nodes : (k : ℕ) → k < made → NodeAlike (fieldsAt after k) (fieldsAt before k)
   alike-nodes k h = r .alike k (λ e. omega arith)
 
   pub begun-stored : Stored d limit after made

@@ -7,7 +7,7 @@ use native.Mathlib.Omega.{arith}
 use native.Mathlib.Decide.{ℕ-discrete}
 use lib.ListN.{getD, length}
 use Rattle.prices.proofs.Growth.{lower}
-use Rattle.meaning.proofs.Lists.{Sorted}
+use Rattle.meaning.specs.Sorted.{Sorted}
 use Rattle.records.specs.Record.{fieldsAt}
 use Rattle.roots.specs.Slots.{PartsHold, RootMade}
 use Rattle.roots.specs.Choices.{Live, Cleared}

@@ -15,7 +15,8 @@ use Rattle.deck.specs.Lists.{countFrom}
 use Rattle.deck.specs.Assignments.{assignmentsInOrder, leastAssignment}
 use Rattle.deck.specs.Calls.{taskList}
 use Rattle.meaning.specs.Meaning.{_at_, Assignment}
-use Rattle.meaning.proofs.Lists.{mem-countFrom, Sorted, sorted-append}
+use Rattle.meaning.specs.Sorted.{Sorted}
+use Rattle.meaning.proofs.Lists.{mem-countFrom, sorted-append}
 use Rattle.meaning.proofs.Assignments.{least-assignment-meant}
 use Rattle.prices.proofs.Growth.{lower}
 use Rattle.partition.specs.Parts.{noneClosed, slotPart, Slot, slotWith, slotsOf, candidate, Apart, Holds, Best}

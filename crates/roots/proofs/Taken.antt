@@ -10,7 +10,8 @@ use lib.ListN.{getD, set, take, length, length-set}
 use lib.Seq.{getD-set-same, getD-set-other}
 use borrow.Author.Tests.{eq-eqb, ne-eqb}
 use Rattle.deck.specs.Lists.{countFrom, each}
-use Rattle.meaning.proofs.Lists.{countFrom-mem, Sorted, sorted-countFrom}
+use Rattle.meaning.specs.Sorted.{Sorted}
+use Rattle.meaning.proofs.Lists.{countFrom-mem, sorted-countFrom}
 use Rattle.records.specs.Cut.{part}
 use Rattle.records.specs.Record.{fieldsAt, tasksIn, rowIn, closedIn, slotIn, flagIn, sumIn, slotTasksIn}
 use Rattle.roots.specs.Slots.{slotOf, slotHere, rootSlots, slotsAt, SlotFor, Rooted}

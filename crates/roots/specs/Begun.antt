@@ -7,13 +7,12 @@ use Rattle.deck.specs.Sheet.{Sheet}
 use Rattle.deck.specs.Calls.{taskList}
 use Rattle.meaning.specs.Meaning.{_at_}
 use Rattle.records.specs.Record.{fieldsAt, keyAt}
-use Rattle.nodes.specs.Stored.{RootSoFar}
-use Rattle.nodes.proofs.Kept.{Alike}
+use Rattle.nodes.specs.Stored.{RootSoFar, NodeAlike}
 
 -- the record of root `made` is begun: none of its paths is written; of the other records only slots and words of the tournament are, and no key
 pub record RootBegun (before after : List ℕ) (made : ℕ) (tasks : List ℕ) : Type 0 where
   pub root : (d : Sheet) (a : List ℕ) → length a ≡ d .count → ((k : ℕ) → a at k < 256) → tasks ≡ taskList a → RootSoFar d after made a 0
-  pub alike : (k : ℕ) → (k ≡ made → ⊥) → Alike (fieldsAt after k) (fieldsAt before k)
+  pub alike : (k : ℕ) → (k ≡ made → ⊥) → NodeAlike (fieldsAt after k) (fieldsAt before k)
   pub keys : (limit k : ℕ) → made < limit → keyAt limit after k ≡ keyAt limit before k
 
 -- the fields of two records that slots are read from are the same

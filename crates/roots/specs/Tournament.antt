@@ -10,7 +10,7 @@ use lib.Dec.{ltb}
 use Rattle.deck.specs.Lists.{countFrom}
 use Rattle.deck.specs.Calls.{taskList}
 use Rattle.meaning.specs.Meaning.{Unbarred}
-use Rattle.meaning.proofs.Lists.{Sorted}
+use Rattle.meaning.specs.Sorted.{Sorted}
 use Rattle.records.specs.Record.{fieldsAt, rowIn, tournamentIn, keyAt}
 use Rattle.roots.specs.Slots.{slotsAt, PartsHold}
 use Rattle.roots.specs.Choices.{firstOf, overSlots, ChosenOf}

@@ -15,7 +15,7 @@ use Rattle.deck.specs.Planner.{problem, planFor}
 use Rattle.deck.specs.declared.Constraint.{Constraint}
 use Rattle.meaning.proofs.Fuel.{plan-answers}
 use Rattle.sheet.proofs.Accepted.{limit-range}
-use Rattle.optimal.proofs.Deck.{rules}
+use Rattle.optimal.specs.Deck.{rules}
 use Rattle.optimal.proofs.Invariant.{TurnRight, turn-right, start-inv}
 use Rattle.optimal.proofs.Select.{cheapest-picks}
 use Rattle.expand.specs.Held.{Held}

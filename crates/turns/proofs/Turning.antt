@@ -17,13 +17,15 @@ use Rattle.deck.specs.declared.Constraint.{Constraint}
 use Rattle.deck.specs.declared.Collision.{Collision}
 use Rattle.deck.specs.declared.CollisionAnswer.{CollisionAnswer}
 use Rattle.deck.specs.declared.CollisionAnswer.the-variants.{Found as CollisionFound}
+use Rattle.meaning.proofs.Lists.{length-below, getD-below}
 use Rattle.meaning.proofs.Accepted.{accepted-start, accepted-horizon}
-use Rattle.meaning.proofs.Limit.{makeEach, one-at-a-time}
+use Rattle.meaning.specs.Making.{makeEach}
+use Rattle.meaning.proofs.Limit.{one-at-a-time}
 use Rattle.sheet.proofs.Accepted.{limit-range}
 use Rattle.optimal.specs.Plans.{Laws, Splits}
-use Rattle.optimal.proofs.Sums.{length-below, getD-below}
-use Rattle.optimal.proofs.Deck.{rules, laws}
-use Rattle.optimal.proofs.Invariant.{Chosen, Picked, node-in-order, node-splits}
+use Rattle.optimal.specs.Deck.{rules}
+use Rattle.optimal.proofs.Deck.{laws}
+use Rattle.optimal.proofs.Invariant.{Chosen, Picked, taken-is-node, node-splits}
 use Rattle.optimal.proofs.Select.{cheapest-picks}
 use Rattle.optimal.proofs.Written.{pieces-flat}
 use Rattle.pack.proofs.Trips.{length-unpack}
@@ -35,7 +37,7 @@ use Rattle.nodes.specs.declared.Pick.the-variants.{Nothing, Open}
 use Rattle.nodes.proofs.Kept.{close-stored, close-nodes, close-records}
 use Rattle.nodes.proofs.Readers.{accepted-fits, paths-read, tasks-read}
 use Rattle.roots.proofs.Begun.{slots-kept-records}
-use Rattle.expand.specs.Held.{Given, Held, Ordered, Nodes, Grew}
+use Rattle.expand.specs.Held.{Given, Held, NodeAt, Nodes, Grew}
 use Rattle.turns.specs.Turns.{StartsOf, Turning, TurnedTo}
 use Rattle.turns.specs.declared.Turned.{Turned}
 use Rattle.turns.specs.declared.Turned.the-variants.{More, Plan, Spent}
@@ -156,8 +158,8 @@ module _ (s : List ℕ) (ok : cause s ≡ 0) where
           within = held .within;
         }
 
-    pub closed-ordered : Ordered (read s) after n
-    closed-ordered = rw same-node (node-in-order (problem (read s)) (rules (read s)) deck-laws (read s .limit) _≡_ st k (turning .1) choice picked)
+    pub closed-node-at : NodeAt (read s) after n
+    closed-node-at = rw same-node (taken-is-node (problem (read s)) (rules (read s)) deck-laws (read s .limit) _≡_ st k (turning .1) choice picked)
 
     -- by the first collision of its paths
     module _ (o : Option Collision) (first : firstCollision (read s .count) (read s .horizon) (nodeAt (read s) after n .paths) ≡ o) where
@@ -227,8 +229,8 @@ module _ (s : List ℕ) (ok : cause s ≡ 0) (work : List ℕ) (made latest k : 
     pub took-held : Held (read s) closed made latest (record { opened = openedAt (read s) (read s .limit) closed made; made = made; rest = st .rest })
     took-held = rw (took .is) (closed-held s ok work made latest k st turning (room-of s ok work room) n cost (took .inside) (took .taken))
 
-    pub took-ordered : Ordered (read s) closed n
-    took-ordered = rw (took .is) (closed-ordered s ok work made latest k st turning (room-of s ok work room) n cost (took .inside) (took .taken))
+    pub took-node-at : NodeAt (read s) closed n
+    took-node-at = rw (took .is) (closed-node-at s ok work made latest k st turning (room-of s ok work room) n cost (took .inside) (took .taken))
 
     -- its first collision
     abbrev first : Option Collision

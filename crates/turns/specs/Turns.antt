@@ -8,8 +8,8 @@ use Rattle.deck.specs.Search.{State, Turn, done, more, Answer, plan, noPlan, sp
 use Rattle.deck.specs.Planner.{problem}
 use Rattle.deck.specs.Calls.{taskList}
 use Rattle.deck.specs.declared.Constraint.{Constraint}
-use Rattle.optimal.proofs.Deck.{rules}
-use Rattle.optimal.proofs.Invariant.{Inv}
+use Rattle.optimal.specs.Invariant.{Invariant}
+use Rattle.optimal.specs.Deck.{rules}
 use Rattle.records.specs.Record.{fieldsAt, tasksIn, bytes}
 use Rattle.nodes.specs.Nodes.{nodeAt}
 use Rattle.expand.specs.Held.{Held}
@@ -24,7 +24,7 @@ StartsOf d starts = (i : ℕ) → i < d .count → getD starts i 0 ≡ getD (d .
 
 -- the state is held and keeps the search's invariant after k turns
 abbrev pub Turning : Sheet → List ℕ → ℕ → ℕ → ℕ → State (List ℕ) Constraint → Type 0
-Turning d work made latest k st = Held d work made latest st × Inv (problem d) (rules d) (d .limit) st k
+Turning d work made latest k st = Held d work made latest st × Invariant (problem d) (rules d) (d .limit) st k
 
 -- node n with this cost is the plan: its tasks and paths are those of its record
 pub record PlanAt (d : Sheet) (work : List ℕ) (made n cost : ℕ) (a : Answer (List ℕ)) : Type 0 where

@@ -15,10 +15,10 @@ ghost use Rattle.deck.specs.Planner.{problem, boundBy, sides, planFor};
 ghost use Rattle.deck.specs.Collisions.{firstCollision};
 ghost use Rattle.deck.specs.Calls.{collisionFound};
 ghost use Rattle.deck.specs.declared.Constraint.{Constraint};
-ghost use Rattle.meaning.proofs.Limit.{makeEach};
+ghost use Rattle.meaning.specs.Making.{makeEach};
 ghost use Rattle.nodes.specs.Nodes.{nodeAt, Lows};
 ghost use Rattle.nodes.specs.Stored.{Good};
-ghost use Rattle.expand.specs.Held.{Given, Held, Holding, Ordered, Nodes, Same};
+ghost use Rattle.expand.specs.Held.{Given, Held, Holding, NodeAt, Nodes, Same};
 ghost use Rattle.turns.specs.Turns.{StartsOf, Turning, TurnedTo, EndedWith};
 
 // What a turn comes to: more nodes, the node that is the plan, no open node, or a node was to be made and none is left.
@@ -112,7 +112,7 @@ fn expanded(
     bounds: &[u8],
 ) -> Turned
     requires { ⌜ Given (now s) (now mask) (now t) (now work) (now bounds) × (n < made) × (length (now list) ≡ 20480) × Holding (read (now s)) (now work) made latest ⌝ }
-    requires { ⌜ Ordered (read (now s)) (now work) n × Good (read (now s)) (sides c .0) × Good (read (now s)) (sides c .1) ⌝ }
+    requires { ⌜ NodeAt (read (now s)) (now work) n × Good (read (now s)) (sides c .0) × Good (read (now s)) (sides c .1) ⌝ }
     ensures turned { λ r. ⌜ ((opened : Nodes) (rest : List (List ℕ)) → Held (read (now (s .entry))) (now (work .entry)) made latest (record { opened = opened; made = made; rest = rest }) → TurnedTo (read (now (s .entry))) (now (work .exit)) made r (makeEach (problem (read (now (s .entry)))) (read (now (s .entry)) .limit) cost (nodeAt (read (now (s .entry))) (now (work .entry)) n) (sides c) rest (record { opened = opened; made = made; rest = restAfter (problem (read (now (s .entry)))) (nodeAt (read (now (s .entry))) (now (work .entry)) n .root) rest }))) ⌝ }
     ensures same { λ _. ⌜ Same (read (now (s .entry))) (now (work .entry)) (now (work .exit)) made ⌝ }
 {

@@ -8,7 +8,7 @@ use Rattle.deck.specs.Listing.{text, textFrom, listingFor}
 use Rattle.deck.specs.declared.SearchKind.{SearchKind}
 use Rattle.deck.specs.declared.SearchKind.the-variants.{Plan, NoPlan, Spent, Refused}
 use Rattle.listing.specs.Listed.{listed}
-use Rattle.listing.proofs.Sizes.{Words, SmallCause, Fits, byte-or}
+use Rattle.listing.proofs.Sizes.{Words, SmallCause, Fits}
 use Rattle.listing.proofs.Listings.{answered}
 use Rattle.listing.proofs.list.Statement.{statement}
 use Rattle.listing.proofs.list.Tie as tie
@@ -21,7 +21,7 @@ answer-fits c k f =
       flowtime = g .1 .0 .1;
       nodes = g .1 .1 .0 .1;
       bound = g .1 .1 .1 .0 .1;
-      tasks = byte-or (c .args .a .tasks) (λ i. elem-fits-field w8 w8 (c .args .a .tasks) _ i (g .0 .1 .1) tt .fits);
+      tasks = λ i. elem-fits-field w8 w8 (c .args .a .tasks) _ i (g .0 .1 .1) tt .fits;
       cause = f;
     }
 

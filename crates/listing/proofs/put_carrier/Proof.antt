@@ -1,20 +1,16 @@
 -- `listing::put_carrier` meets its contract: the fields of the line, one after the other. Assumes nothing.
-use mathlib.Core.Path.{refl, ap, _∙_}
+use mathlib.Core.Path.{refl}
 use denote.Ref.{now}
 use borrow.Author.Needs.{needs}
 use Rattle.deck.specs.Sheet.{read}
-use Rattle.deck.specs.Paths.{finish as finishOn}
 use Rattle.deck.specs.Listing.{decimal, text, textFrom}
 use Rattle.listing.proofs.Buffers.{wrote-then, wrote-field}
 use Rattle.listing.proofs.Lines.{line-is}
 use Rattle.listing.proofs.put_carrier.Statement.{statement}
 use Rattle.listing.proofs.put_carrier.Tie as tie
 
-last-goal-requires : tie.Need-last-goal-requires
-last-goal-requires c κs = tt
-
-finish-requires : tie.Need-finish-requires
-finish-requires c κs = tt
+finish-of-requires : tie.Need-finish-of-requires
+finish-of-requires c κs = tt
 
 slice-aggregate-put-field : tie.Need-slice-aggregate-put-field
 slice-aggregate-put-field c = refl
@@ -52,14 +48,14 @@ same-length c = search needs
 returns : tie.Need-returns
 unfolding text textFrom
 returns c =
-    let s = c .before .before .before .before .before .before .before .before .before .before .before .before .before .before .before .before .before .before .before .before .before .before .before .before .before .before .before .before .before .before .before .before .before in
-    let h = s .pre .1 in
-    line-is (read (now (s .args .s))) (s .args .i .0) (s .args .j .0) (c .before .before .before .before .before .before .before .before .before .before .before .before .before .before .before .before .before .before .before .before .before .before .before .before .before .before .before .before .finish .result) (now (s .args .path))
-    (c .before .before .before .before .before .before .before .before .before .before .before .before .before .before .before .before .before .before .before .before .before .before .before .before .before .before .before .before .finish .ensures ∙ ap (λ g. finishOn g (now (s .args .path))) (c .before .before .before .before .before .before .before .before .before .before .before .before .before .before .before .before .before .before .before .before .before .before .before .before .before .before .before .before .before .last-goal .ensures .0))
+    let s = c .before .before .before .before .before .before .before .before .before .before .before .before .before .before .before .before .before .before .before .before .before .before .before .before .before .before .before .before .before .before .before .before in
+    let h = s .pre in
+    line-is (read (now (s .args .s))) (s .args .i .0) (s .args .j .0) (c .before .before .before .before .before .before .before .before .before .before .before .before .before .before .before .before .before .before .before .before .before .before .before .before .before .before .before .before .finish-of .result) (now (s .args .path))
+    (c .before .before .before .before .before .before .before .before .before .before .before .before .before .before .before .before .before .before .before .before .before .before .before .before .before .before .before .before .finish-of .ensures)
     (wrote-then h
     (wrote-then h
     (wrote-then h
-    (wrote-field (text " finish ") (decimal (c .before .before .before .before .before .before .before .before .before .before .before .before .before .before .before .before .before .before .before .before .before .before .before .before .before .before .before .before .finish .result)) h
+    (wrote-field (text " finish ") (decimal (c .before .before .before .before .before .before .before .before .before .before .before .before .before .before .before .before .before .before .before .before .before .before .before .before .before .before .before .before .finish-of .result)) h
     (wrote-field (text " task ") (decimal (s .args .j .0)) h (c .before .before .before .before .before .before .before .before .before .before .before .before .before .before .before .before .before .before .before .before .before .before .before .before .before .put-field .ensures) (c .before .before .before .before .before .before .before .before .before .before .before .before .before .before .before .before .before .before .before .before .put-field2 .ensures)) (c .before .before .before .before .before .before .before .before .before .before .before .before .before .before .before .put-field3 .ensures))
     (c .before .before .before .before .before .before .before .before .before .before .put-text .ensures))
     (c .before .before .before .before .before .before .put-places .ensures))
@@ -69,8 +65,7 @@ pub put-carrier-spec : {M : Type 1} → statement M
 put-carrier-spec =
     tie.close
     (tie.spec
-    last-goal-requires
-    finish-requires
+    finish-of-requires
     slice-aggregate-put-field
     put-field-requires
     slice-aggregate-put-field-2

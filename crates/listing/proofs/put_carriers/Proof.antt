@@ -3,8 +3,6 @@ use Prim.Native.Nat.{ℕ, _+_, _-_, _*_, _≤_, _<_}
 use native.Mathlib.Numerals.{add-one}
 use native.Mathlib.Omega.{arith}
 use denote.Ref.{now}
-use mir.Syntax.{w8}
-use borrow.Kind.Array.{good-length, eInt}
 use borrow.Author.Needs.{needs}
 use Rattle.deck.specs.Lists.{below, each}
 use Rattle.deck.specs.Sheet.{read}
@@ -44,7 +42,7 @@ piece-requires : tie.Need-piece-requires Inv-loop μ-loop
 piece-requires c κs = omega (arith, words-fit (c .before .before .before .before .before .before .before) (c .before .before .before .loop .i) (c .before .before .loop-test .taken))
 
 put-carrier-requires : tie.Need-put-carrier-requires Inv-loop μ-loop
-put-carrier-requires c κs = (c .before .before .before .before .before .before .before .before .before .pre .0, search needs)
+put-carrier-requires c κs = search needs
 
 add-i : tie.Need-add-i Inv-loop μ-loop
 add-i c = search needs
@@ -58,7 +56,7 @@ loop-again c =
     let l = w .before .before in
     let s = l .before .before .before .before .before in (
       omega arith,
-      line-more (read (now (s .args .s))) (s .args .t4) (s .args .m) (s .args .h) (now (s .args .paths)) (l .before .loop .i) (s .args .h + 1) (w .task-of .result .0) (now (c .before .before .before .before .piece .result)) (add-one _) (l .loop-test .taken) (omega (arith, few s, l .loop-test .taken, good-length (eInt w8) 12 (s .args .t4) _ (s .good .1 .1 .1 .0))) (s .pre .3) (w .task-of .ensures .0) (c .before .before .before .before .piece .ensures) (l .before .loop .inv .1) (c .before .before .put-carrier .ensures),
+      line-more (read (now (s .args .s))) (s .args .t4) (s .args .m) (s .args .h) (now (s .args .paths)) (l .before .loop .i) (s .args .h + 1) (w .task-of .result .0) (now (c .before .before .before .before .piece .result)) (add-one _) (l .loop-test .taken) (s .pre .3) (w .task-of .ensures .0) (c .before .before .before .before .piece .ensures) (l .before .loop .inv .1) (c .before .before .put-carrier .ensures),
     )
 
 same-length : tie.Need-same-length Inv-loop μ-loop

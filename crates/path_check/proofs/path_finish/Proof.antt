@@ -8,7 +8,7 @@ use denote.Ref.{now}
 use borrow.Author.Tests.{not-true, not-false}
 use Rattle.deck.specs.Lists.{isNil}
 use Rattle.deck.specs.Sheet.{read, startOf, goalsOf, horizonOf}
-use Rattle.deck.specs.Paths.{left, finish, finishOf}
+use Rattle.deck.specs.Paths.{left}
 use Rattle.deck.specs.PlanCheck.{follows}
 use Rattle.deck.specs.declared.PathAnswer.the-variants.{Found}
 use Rattle.path_check.proofs.Walks.{not-begun, not-going, not-visited, not-finished, finished}
@@ -32,11 +32,6 @@ going c = sym (c .before .goes .ensures) ∙ not-false _ (c .if2 .left)
 visited : (c : tie.Else3)
     → isNil (left (now (start-of (c .before .before .before .before) .args .path)) (goalsOf (read (now (start-of (c .before .before .before .before) .args .s))) (start-of (c .before .before .before .before) .args .j))) ≡ true
 visited c = sym (c .before .visits-all .ensures) ∙ not-false _ (c .if3 .left)
-
-finish-is : (c : tie.After-finish) → let s = start-of (c .before .before .before .before .before .before) in c .finish .result ≡ finishOf (read (now (s .args .s))) (s .args .j) (now (s .args .path))
-finish-is c =
-    let s = start-of (c .before .before .before .before .before .before) in
-    c .finish .ensures ∙ ap (λ g. finish g (now (s .args .path))) (c .before .last-goal .ensures .0)
 
 shared-slice-read-wide : tie.Need-shared-slice-read-wide
 shared-slice-read-wide c = search needs
@@ -69,27 +64,24 @@ returns-3 c =
     let b = g .before .before in
     not-visited _ _ _ _ (long (start-of b)) (begun b) (going g) (sym (c .before .visits-all .ensures) ∙ not-true _ (c .if3 .taken))
 
-last-goal-requires : tie.Need-last-goal-requires
-last-goal-requires c κs = search needs
-
-finish-requires : tie.Need-finish-requires
-finish-requires c κs = search needs
+finish-of-requires : tie.Need-finish-of-requires
+finish-of-requires c κs = search needs
 
 returns-4 : tie.Need-returns-4
 returns-4 c =
-    let v = c .before .before .before in
+    let v = c .before .before in
     let g = v .before .before in
     let b = g .before .before in
     let s = start-of b in
-    not-finished _ _ _ _ (long s) (begun b) (going g) (visited v) (omega (arith, c .if4 .taken, finish-is (c .before), s .pre .2))
+    not-finished _ _ _ _ (long s) (begun b) (going g) (visited v) (omega (arith, c .if4 .taken, c .before .finish-of .ensures, s .pre .2))
 
 returns-5 : tie.Need-returns-5
 returns-5 c =
-    let v = c .before .before .before in
+    let v = c .before .before in
     let g = v .before .before in
     let b = g .before .before in
     let s = start-of b in
-    ap Found (finish-is (c .before)) ∙ finished _ _ _ _ (long s) (begun b) (going g) (visited v) (omega (arith, c .if4 .left, finish-is (c .before), s .pre .2))
+    ap Found (c .before .finish-of .ensures) ∙ finished _ _ _ _ (long s) (begun b) (going g) (visited v) (omega (arith, c .if4 .left, c .before .finish-of .ensures, s .pre .2))
 
 pub path-finish-spec : {M : Type 1} → statement M
 path-finish-spec =
@@ -103,7 +95,6 @@ path-finish-spec =
     returns-2
     visits-all-requires
     returns-3
-    last-goal-requires
-    finish-requires
+    finish-of-requires
     returns-4
     returns-5)

@@ -57,7 +57,7 @@ add-n c = omega (arith, c .before .before .pre .3, accepted-horizon _ (c .before
 loop-holds : tie.Need-loop-holds Inv-loop μ-loop
 loop-holds c =
     let s = c .before .before in
-    (omega arith, flow-start _ _ _ _ (la s) (lp s))
+    (omega arith, flow-start _ _ _ _ (s .pre .2) (la s) (lp s))
 
 task-of-requires : tie.Need-task-of-requires Inv-loop μ-loop
 task-of-requires c κs =
@@ -109,7 +109,7 @@ returns c =
     let w = c .before .before .before .before in
     let l = w .before .before in
     let s = l .before .before .before .before in
-    sym (l .before .loop .inv .1 ∙ flow-none _ _ _ _ (la s) (lp s) (l .before .loop .sum) (l .before .loop .i) (l .loop-test .taken) (task-is w) (piece-is _ _ _ _ _ (add-one _) (l .loop-test .taken)) (c .before .before .path-finish .ensures) (c .enum-told .given .1))
+    sym (l .before .loop .inv .1 ∙ flow-none _ _ _ _ (s .pre .2) (la s) (lp s) (l .before .loop .sum) (l .before .loop .i) (l .loop-test .taken) (task-is w) (piece-is _ _ _ _ _ (add-one _) (l .loop-test .taken)) (c .before .before .path-finish .ensures) (c .enum-told .given .1))
 
 enum-told-2 : tie.Need-enum-told-2 Inv-loop μ-loop
 enum-told-2 c = search needs
@@ -119,7 +119,7 @@ returns-2 c =
     let w = c .before .before .before .before in
     let l = w .before .before in
     let s = l .before .before .before .before in
-    sym (l .before .loop .inv .1 ∙ flow-refused _ _ _ _ (la s) (lp s) (l .before .loop .sum) (l .before .loop .i) (l .loop-test .taken) (task-is w) (piece-is _ _ _ _ _ (add-one _) (l .loop-test .taken)) (c .before .before .path-finish .ensures) _ (c .enum-told2 .given .1))
+    sym (l .before .loop .inv .1 ∙ flow-refused _ _ _ _ (s .pre .2) (la s) (lp s) (l .before .loop .sum) (l .before .loop .i) (l .loop-test .taken) (task-is w) (piece-is _ _ _ _ _ (add-one _) (l .loop-test .taken)) (c .before .before .path-finish .ensures) _ (c .enum-told2 .given .1))
 
 add-i : tie.Need-add-i Inv-loop μ-loop
 add-i c =
@@ -135,13 +135,13 @@ loop-again c =
     let l = w .before .before in
     let s = l .before .before .before .before in (
       omega (arith, l .before .loop .inv .0, path-small _ _ _ _ (c .before .t .given .0 .0) (c .before .before .before .path-finish .ensures) (c .before .t .given .1), accepted-horizon _ (s .pre .0)),
-      l .before .loop .inv .1 ∙ flow-next _ _ _ _ (la s) (lp s) (l .before .loop .sum) (l .before .loop .i) (l .loop-test .taken) (task-is w) (piece-is _ _ _ _ _ (add-one _) (l .loop-test .taken)) (c .before .before .before .path-finish .ensures) _ (c .before .t .given .1),
+      l .before .loop .inv .1 ∙ flow-next _ _ _ _ (s .pre .2) (la s) (lp s) (l .before .loop .sum) (l .before .loop .i) (l .loop-test .taken) (task-is w) (piece-is _ _ _ _ _ (add-one _) (l .loop-test .taken)) (c .before .before .before .path-finish .ensures) _ (c .before .t .given .1),
     )
 
 returns-3 : tie.Need-returns-3 Inv-loop μ-loop
 returns-3 c =
     let s = c .before .before .before .before in
-    sym (c .before .loop .inv .1 ∙ flow-over _ _ _ _ (la s) (lp s) _ _ (c .loop-test .left))
+    sym (c .before .loop .inv .1 ∙ flow-over _ _ _ _ (s .pre .2) (la s) (lp s) _ _ (c .loop-test .left))
 
 pub flowtime-spec : {M : Type 1} → statement M
 flowtime-spec =

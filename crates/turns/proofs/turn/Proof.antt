@@ -17,7 +17,7 @@ use Rattle.nodes.specs.Nodes.{nodeAt, InRange}
 use Rattle.nodes.proofs.Blocks.{lows-kept}
 use Rattle.sheet.proofs.Accepted.{limit-range}
 use Rattle.turns.specs.Turns.{Turning}
-use Rattle.turns.proofs.Turning.{Took, St, pick-is, room-of, turn-nothing, found-is, none-is, took-given, took-held, took-ordered, took-plan, took-good, took-turned, lows-limit}
+use Rattle.turns.proofs.Turning.{Took, St, pick-is, room-of, turn-nothing, found-is, none-is, took-given, took-held, took-node-at, took-plan, took-good, took-turned, lows-limit}
 use Rattle.turns.proofs.turn.Statement.{statement}
 use Rattle.turns.proofs.turn.Tie as tie
 
@@ -128,7 +128,7 @@ expanded-requires c κs =
         s .pre .0 .2,
         (_, took-held (s .args .s .now) ok (s .args .work .now) (s .args .made) (s .args .latest) k st turning (c .before .before .before .before .before .before .before .before .before .before .before .close .last .0) _ _ t room),
       ),
-      (took-ordered (s .args .s .now) ok (s .args .work .now) (s .args .made) (s .args .latest) k st turning (c .before .before .before .before .before .before .before .before .before .before .before .close .last .0) _ _ t room, good .0, good .1),
+      (took-node-at (s .args .s .now) ok (s .args .work .now) (s .args .made) (s .args .latest) k st turning (c .before .before .before .before .before .before .before .before .before .before .before .close .last .0) _ _ t room, good .0, good .1),
     )
 
 same-length-3 : tie.Need-same-length-3
