@@ -1,2 +1,3 @@
 pub mod Padded
+pub mod Ways
 pub mod Bars

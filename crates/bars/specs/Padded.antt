@@ -1,11 +1,12 @@
 -- The padded grid: rows of width w + 2 with a border around the grid, so that the places around a place are always one and one
 -- row apart. A layer is a number for each padded place. Assumes nothing.
-use Prim.Native.Nat.{ℕ, _+_, _*_, _/_, _<_}
+use Prim.Native.Nat.{ℕ, _+_, _*_, _/_, _≤_, _<_}
 use mathlib.Core.Path.{_≡_}
 use mathlib.Core.Logic.{_≢_}
-use mathlib.Core.Bool.{cond}
+use mathlib.Core.Bool.{Bool, cond}
 use mathlib.Core.List.{List}
 use lib.ListN.{length, getD}
+use lib.Dec.{T}
 use Rattle.deck.specs.Sheet.{Sheet, area, free}
 
 -- the padded number of a place
@@ -26,6 +27,15 @@ pub record Holds (d : Sheet) (x : List ℕ) (f : ℕ → ℕ) : Type 0 where
   pub inside : (v : ℕ) → v < area d → getD x (padOf (d .width) v) 0 ≡ f v
   pub border : (p : ℕ) → Border d p → getD x p 0 ≡ 0
 
--- the mask of a sheet: 255 at a free place, 0 elsewhere
+-- what the mask says of a place: 255 where it is free, 0 where it is blocked
+unfoldable pub shade : Sheet → ℕ → ℕ
+shade d v = cond (free d v) 255 0
+
+-- the mask of a sheet
 abbrev pub MaskOf : Sheet → List ℕ → Type 0
-MaskOf d mask = Holds d mask (λ v. cond (free d v) 255 0)
+MaskOf d mask = Holds d mask (shade d)
+
+-- a byte of a mask that lets labels through, which are below 224, if b, and else none
+pub record Gate (b : Bool) (m : ℕ) : Type 0 where
+  pub lets : T b → 224 ≤ m
+  pub shuts : ¬ T b → m ≡ 0

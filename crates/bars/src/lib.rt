@@ -1,5 +1,6 @@
-// Places of the padded grid, and the constraints of one carrier in chains by time: for each time the last record, for each record
-// the one before it. So a layer's constraints are found without a look at the others, be there 50 or 4096.
+// Places of the padded grid, the ways from one to the next, and the constraints of one carrier in chains by time: for each time
+// the last record, for each record the one before it. So a layer's constraints are found without a look at the others, be there
+// 50 or 4096.
 use deck::Carrier;
 ghost use mathlib.Core.Path.{_≡_};
 ghost use mathlib.Core.Bool.{cond};
@@ -9,6 +10,7 @@ ghost use lib.Dec.{eqb};
 ghost use Rattle.deck.specs.Calls.{recordWord, constraintAt, constraintsOf};
 ghost use Rattle.kernel.specs.Parts.{freeMove, freePlace, stayAfter, stayFrom};
 ghost use Rattle.bars.specs.Padded.{padOf};
+ghost use Rattle.bars.specs.Ways.{turnOf};
 ghost use Rattle.bars.specs.Bars.{countIn, Chained, Timely, OnLayer, Cleared, wayOf, slotOf, moveSlot, placeSlot, movesFrom, standsOn};
 
 // The padded number of the place v.
@@ -17,6 +19,26 @@ pub fn pad(w: usize, v: usize) -> usize
     ensures { λ r. ⌜ r ≡ padOf w v ⌝ }
 {
     v + 2 * (v / w) + w + 3
+}
+
+// How far the way x leads on a grid of width w, plus w: above, left, to the place itself, right, below.
+pub fn turn(w: usize, x: usize) -> usize
+    requires { ⌜ (1 ≤ w) × (w ≤ 34) × (x < 5) ⌝ }
+    ensures { λ r. ⌜ (r ≡ turnOf w x) × (r ≤ 68) ⌝ }
+{
+    if x == 0 {
+        return 0;
+    }
+    if x == 1 {
+        return w - 1;
+    }
+    if x == 2 {
+        return w;
+    }
+    if x == 3 {
+        return w + 1;
+    }
+    2 * w
 }
 
 fn wide16(x: u16) -> usize

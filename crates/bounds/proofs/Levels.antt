@@ -1,24 +1,23 @@
 -- The bounds of a label in the table, out of a layer that passed the test; and the table, filled label by label. Assumes nothing.
-use Prim.Native.Nat.{ℕ, suc, _+_, _-_, _*_, _≤_, _<_}
+use Prim.Native.Nat.{ℕ, zero, suc, _+_, _-_, _*_, _≤_, _<_}
 use mathlib.Core.Path.{_≡_, sym, ap, _∙_, subst}
-use mathlib.Core.Logic.{_⊎_, inl, inr, ⊎-elim}
-use mathlib.Core.Bool.{Bool, true, false, cond}
-use mathlib.Core.List.{List, [], _∷_, List·Memᴰ as Mem, List·Memᴰ·not-nil as not-nil, List·Memᴰ·cases-cons as cases-cons}
+use mathlib.Core.Logic.{_⊎_, inl, inr}
+use mathlib.Core.List.{List}
 use native.Mathlib.Nat.{eq-or-lt-of-le}
 use native.Mathlib.Omega.{arith}
 use lib.ListN.{length, getD}
 use lib.Dec.{T}
 use Rattle.deck.specs.Sheet.{Sheet, read, area, free, goalsOf, lastGoal}
 use Rattle.deck.specs.declared.Task.{Task}
-use Rattle.meaning.specs.Meaning.{Free, Step}
 use Rattle.meaning.proofs.Paths.{free-meant}
 use Rattle.sheet.proofs.Accepted.{width-range, height-range, area-range, goals-range, goal-on-grid, last-of}
-use Rattle.kernel.specs.Near.{consIf, hasAbove, hasLeft, hasRight, hasBelow, near}
 use Rattle.kernel.specs.Parts.{stepFree}
-use Rattle.kernel.proofs.Near.{wide-of, beside-turned, beside-near, cases-if}
 use Rattle.kernel.proofs.OfSheet.{step-free-meant}
 use Rattle.bars.specs.Padded.{padOf, MaskOf}
-use Rattle.bars.proofs.Grid.{pad-least, pad-most, pad-above, pad-left, pad-right, pad-below, size-of, size-small}
+use Rattle.bars.specs.Ways.{moveBy, placeBy, hasBy, wayBack}
+use Rattle.bars.proofs.Gates.{shade-gate}
+use Rattle.bars.proofs.Grid.{pad-least, pad-most, size-of, size-small}
+use Rattle.bars.proofs.Leads.{leads, step-way}
 use Rattle.layers.specs.Fill.{Filled}
 use Rattle.passes.specs.Ready.{Goals}
 use Rattle.bounds.specs.Graded.{mostAround, Even, Layer, Given, Graded}
@@ -29,38 +28,35 @@ module _ (d : Sheet) (mask x : List ℕ) (masked : MaskOf d mask) (even : Even x
   abbrev num : ℕ → ℕ
   num u = getD x (padOf (d .width) u) 0
 
-  under : T (free d v) → mostAround x (d .width + 2) (padOf (d .width) v) ≤ suc (num v)
-  under f = even (padOf (d .width) v) (pad-least d v on) (pad-most d v on) (rw (masked .inside v on) (go (free d v) f))
+  -- the number that the way y leads to
+  around : T (free d v) → (y : ℕ) → y < 5 → T (hasBy d v y) → num (placeBy d v y) ≤ suc (num v)
+  around f y l h = rw (leads d v on y l h .padded) (go y l)
     where
-      go : (b : Bool) → T b → 0 < cond b 255 0
-      go true t = omega arith
-      go false t = absurd t
+      p : ℕ
+      p = padOf (d .width) v
 
-  pub around : T (free d v) → (u : ℕ) → Mem u (near d v) → num u ≤ suc (num v)
-  around f u m =
-      ⊎-elim (λ e. rw (e .1, pad-above d v on (e .0)) (omega (arith, under f)))
-      (λ n. ⊎-elim (λ e. rw (e .1, pad-left d v on (e .0)) (omega (arith, under f)))
-      (λ n. ⊎-elim (λ e. rw e (omega (arith, under f)))
-      (λ n. ⊎-elim (λ e. rw (e .1, pad-right d v on (e .0)) (omega (arith, under f)))
-      (λ n. ⊎-elim (λ e. rw (e .1, pad-below (d .width) v (wide-of (d .width) (d .height) v on)) (omega (arith, under f))) (λ n. absurd (not-nil n))
-      (cases-if (hasBelow d v) (v + d .width) [] n))
-      (cases-if (hasRight d v) (v + 1) (consIf (hasBelow d v) (v + d .width) []) n))
-      (cases-cons n))
-      (cases-if (hasLeft d v) (v - 1) (v ∷ consIf (hasRight d v) (v + 1) (consIf (hasBelow d v) (v + d .width) [])) n))
-      (cases-if (hasAbove d v) (v - d .width) (consIf (hasLeft d v) (v - 1) (v ∷ consIf (hasRight d v) (v + 1) (consIf (hasBelow d v) (v + d .width) []))) m)
+      most : mostAround x (d .width + 2) p ≤ suc (num v)
+      most = even p (pad-least d v on) (pad-most d v on) (rw (masked .inside v on) (omega (arith, shade-gate d v .lets f)))
+
+      at : (q r : ℕ) → q ≡ r → getD x r 0 ≤ suc (num v) → getD x q 0 ≤ suc (num v)
+      at q r e k = rw e k
+
+      go : (y : ℕ) → y < 5 → getD x (moveBy (d .width + 2) p y) 0 ≤ suc (num v)
+      go zero l = at _ (p - (d .width + 2)) (omega arith) (omega (arith, most))
+      go (suc zero) l = at _ (p - 1) (omega arith) (omega (arith, most))
+      go (suc (suc zero)) l = at _ p (omega arith) (omega arith)
+      go (suc (suc (suc zero))) l = at _ (p + 1) (omega arith) (omega (arith, most))
+      go (suc (suc (suc (suc zero)))) l = at _ (p + (d .width + 2)) (omega arith) (omega (arith, most))
+      go (suc (suc (suc (suc (suc y))))) l = absurd (omega arith)
 
 pub layer-step : (d : Sheet) (mask x : List ℕ) → MaskOf d mask → Even x mask (d .width + 2) ((d .width + 2) * (d .height + 1)) → (u v : ℕ) → T (stepFree d u v)
     → getD x (padOf (d .width) u) 0 ≤ suc (getD x (padOf (d .width) v) 0)
-layer-step d mask x m e u v h = go (r .1 .1)
-  where
-    r : Free d u × (Free d v × Step d u v)
-    r = step-free-meant d u v .fact h
-
-    go : Step d u v → getD x (padOf (d .width) u) 0 ≤ suc (getD x (padOf (d .width) v) 0)
-    go (inl i) = rw i (omega arith)
-    go (inr b) =
-        around d mask x m e v (r .1 .0 .on-grid) (free-meant d v .test (r .1 .0)) u
-        (beside-near d v u (r .1 .0 .on-grid) (r .0 .on-grid) (beside-turned d u v (b .1)))
+layer-step d mask x m e u v h =
+    let r = step-free-meant d u v .fact h in
+    let w = step-way d u v (r .0 .on-grid) h .0 in
+    let k = leads d u (r .0 .on-grid) (w .by) (w .within) (w .has) in
+    subst (λ (y : ℕ). getD x (padOf (d .width) y) 0 ≤ suc (getD x (padOf (d .width) v) 0)) (subst (λ (y : ℕ). placeBy d y (wayBack (w .by)) ≡ u) (sym (w .to)) (k .back))
+    (around d mask x m e v (r .1 .0 .on-grid) (free-meant d v .test (r .1 .0)) (wayBack (w .by)) (omega arith) (subst (λ (y : ℕ). T (hasBy d y (wayBack (w .by)))) (sym (w .to)) (k .has-back)))
 
 -- the bounds of a label stand in the table from `at` on, at most `base` on the goal g; what lies after them is as it was
 pub record Level (d : Sheet) (at g base : ℕ) (before after : List ℕ) : Type 0 where

@@ -104,6 +104,6 @@ pub fn least(
     if sheet::byte_at(s, 3) < end {
         return PathAnswer::NoPath;
     }
-    trace::trace(s, i, j, &goals, records, &heads, work, end, out);
+    trace::trace(s, i, j, mask, &goals, records, &heads, work, end, out);
     PathAnswer::Found(end)
 }

@@ -1,4 +1,3 @@
-pub mod Ways
 pub mod Walking
 pub mod Looking
 pub mod Diving

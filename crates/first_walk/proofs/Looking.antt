@@ -1,8 +1,8 @@
 -- A look by one of the five ways: what each test says. Assumes nothing.
-use Prim.Native.Nat.{ℕ, zero, suc, _+_, _-_, _*_, _≤_, _<_, zero-le}
+use Prim.Native.Nat.{ℕ, suc, _+_, _-_, _*_, _≤_, _<_}
 use mathlib.Core.Path.{_≡_, refl, sym, ap, _∙_, subst}
 use mathlib.Core.Logic.{_≢_}
-use mathlib.Core.Bool.{Bool, true, false, cond, _&&_}
+use mathlib.Core.Bool.{Bool, true, false, _&&_}
 use mathlib.Core.List.{List}
 use native.Mathlib.Numerals.{add-one}
 use native.Mathlib.Omega.{arith}
@@ -21,35 +21,18 @@ use Rattle.kernel.specs.Parts.{freeMove, freePlace, stands, stepFree, partsOf}
 use Rattle.kernel.proofs.Both.{and-left, and-right, and-both}
 use Rattle.kernel.proofs.Labels.{up-le}
 use Rattle.kernel.proofs.OfSheet.{stands-is, step-free-meant}
-use Rattle.bars.specs.Padded.{padOf}
+use Rattle.bars.specs.Padded.{padOf, Gate}
+use Rattle.bars.specs.Ways.{turnOf, moveBy, placeBy, hasBy}
+use Rattle.bars.proofs.Gates.{gate-shut, gate-open}
 use Rattle.bars.proofs.Grid.{pad-most, size-of, size-small}
+use Rattle.bars.proofs.Leads.{turn-most, leads, mask-by, step-by, leaves-any}
 use Rattle.layers.specs.Raise.{GoalsAt}
-use Rattle.layers.proofs.Around.{step-near}
 use Rattle.passes.proofs.Given.{wide-one, wide-most, high-most, horizon-most, few-goals}
 use Rattle.trace.specs.Along.{Visited}
 use Rattle.trace.proofs.Looking.{visited-up}
 use Rattle.first_walk.specs.declared.Seek.{Seek}
 use Rattle.first_walk.specs.declared.Ahead.the-variants.{To}
-use Rattle.first_walk.specs.Walk.{turnOf, placeBy, hasBy, slotOf, codeOf, goesBy, Dead, On, Seen, Given}
-use Rattle.first_walk.proofs.Ways.{leads, layer-by}
-
-turn-most : (w x : ℕ) → 1 ≤ w → turnOf w x ≤ 2 * w
-turn-most w zero l = zero-le
-turn-most w (suc zero) l = omega arith
-turn-most w (suc (suc zero)) l = omega arith
-turn-most w (suc (suc (suc zero))) l = omega arith
-turn-most w (suc (suc (suc (suc x)))) l = omega arith
-
--- the value of a mask
-mask-shut : (a b : Bool) → _≡_ {A = ℕ} (cond a (cond b 255 0) 0) 0 → T a → ¬ T b
-mask-shut true true e s t = omega arith
-mask-shut true false e s t = t
-mask-shut false b e s t = s
-
-mask-open : (a b : Bool) → ¬ (_≡_ {A = ℕ} (cond a (cond b 255 0) 0) 0) → T a × T b
-mask-open true true n = (tt, tt)
-mask-open true false n = absurd (n refl)
-mask-open false b n = absurd (n refl)
+use Rattle.first_walk.specs.Walk.{slotOf, codeOf, goesBy, Dead, On, Seen, Given}
 
 module _ {s : List ℕ} {i : Carrier} {j : Task} {mask goals rs heads links table : List ℕ} {l : Seek} (g : Given s i j mask goals rs heads links table l)
     {t u p k : ℕ} (o : On (read s) j (l .end) t u p k) where
@@ -76,7 +59,7 @@ module _ {s : List ℕ} {i : Carrier} {j : Task} {mask goals rs heads links tabl
 
   -- the padded place by the way x
   abbrev spot : ℕ → ℕ
-  spot x = padOf (read s .width) u + turnOf (read s .width + 2) x - (read s .width + 2)
+  spot x = moveBy (read s .width + 2) (padOf (read s .width) u) x
 
   pub spot-of : (x r : ℕ) → r ≡ turnOf (l .w + 2) x → p + r - (l .w + 2) ≡ spot x
   spot-of x r e = rw (e, g .wide, o .padded) refl
@@ -117,14 +100,14 @@ module _ {s : List ℕ} {i : Carrier} {j : Task} {mask goals rs heads links tabl
     abbrev Closed : Type 0
     Closed = ¬ T (goesBy (read s) i j (constraintsOf rs) (l .end) t u k x)
 
-    mask-at : (q : ℕ) → q ≡ spot x → getD mask q 0 ≡ cond (hasBy d u x) (cond (free d (placeBy d u x)) 255 0) 0
-    mask-at q e = rw e (layer-by d u inside mask (λ v. cond (free d v) 255 0) (g .ready .masked) x lx)
+    mask-at : (q m : ℕ) → q ≡ spot x → m ≡ getD mask q 0 → Gate (hasBy d u x && free d (placeBy d u x)) m
+    mask-at q m e f = rw (f, e) (mask-by d u inside mask (g .ready .masked) x lx)
 
     -- no free place
     pub blocked-way : (q m : ℕ) → q ≡ spot x → m ≡ getD mask q 0 → m ≡ 0 → Closed
     blocked-way q m e f z h =
         let a = goes-asks x h in
-        mask-shut (hasBy d u x) (free d (placeBy d u x)) (sym (mask-at q e) ∙ sym f ∙ z) (a .0) (pass-free (placeBy d u x) (a .1))
+        gate-shut (hasBy d u x && free d (placeBy d u x)) (mask-at q m e f) z (and-both (hasBy d u x) (free d (placeBy d u x)) (a .0) (pass-free (placeBy d u x) (a .1)))
 
     -- the place by the way x is free
     pub record Opens (v q : ℕ) : Type 0 where
@@ -135,12 +118,13 @@ module _ {s : List ℕ} {i : Carrier} {j : Task} {mask goals rs heads links tabl
 
     pub open-way : (q m r : ℕ) → q ≡ spot x → m ≡ getD mask q 0 → m ≢ 0 → r ≡ turnOf (l .w) x → (l .w ≤ u + r) × Opens (u + r - l .w) q
     open-way q m r e f n er =
-        let a = mask-open (hasBy d u x) (free d (placeBy d u x)) (λ y. n (f ∙ mask-at q e ∙ y)) in
-        let b = leads d u inside x lx (a .0) in
+        let a = gate-open (hasBy d u x && free d (placeBy d u x)) (mask-at q m e f) n in
+        let h = and-left (hasBy d u x) (free d (placeBy d u x)) a in
+        let b = leads d u inside x lx h in
         let y : u + r - l .w ≡ placeBy d u x = rw (er, g .wide) refl in
         let c : turnOf (l .w) x ≡ turnOf (d .width) x = ap (λ (z : ℕ). turnOf z x) (g .wide) in (
           omega (arith, g .wide, b .enough),
-          record { has = a .0; is-free = a .1; at = y; padded = rw y (e ∙ sym (b .padded)) },
+          record { has = h; is-free = and-right (hasBy d u x) (free d (placeBy d u x)) a; at = y; padded = rw y (e ∙ sym (b .padded)) },
         )
 
     module _ (tl : t < l .end) {v q : ℕ} (op : Opens v q) where
@@ -197,8 +181,7 @@ module _ {s : List ℕ} {i : Carrier} {j : Task} {mask goals rs heads links tabl
         clear-way b e y =
             let both : T (freeMove i (constraintsOf rs) t u v && stands d i (constraintsOf rs) (t + 1) v) = subst T (sym (sym (lets-stand b e) ∙ y)) tt in
             let free-v : T (free d v) = rw (op .at) (op .is-free) in
-            let touch = leads d u inside x lx (op .has) .beside in
-            let step : T (stepFree d u v) = rw (op .at, step-near d u (placeBy d u x) touch) (and-both (free d u) (free d (placeBy d u x)) (o .on-free) (op .is-free)) in (
+            let step : T (stepFree d u v) = rw (op .at, step-by d u inside x lx (op .has), leaves-any d u x) (and-both (free d u) (free d (placeBy d u x)) (o .on-free) (op .is-free)) in (
               op .has,
               op .at,
               counted,

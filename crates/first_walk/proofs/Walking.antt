@@ -28,13 +28,14 @@ use Rattle.kernel.proofs.Choice.{lt-or-ge, best-some, best-all}
 use Rattle.kernel.proofs.Labels.{up-le, lowered-iff}
 use Rattle.kernel.proofs.Kernel.{hind-back, follow-trace}
 use Rattle.kernel.proofs.Least.{cond-pos}
+use Rattle.bars.specs.Ways.{placeBy, hasBy}
+use Rattle.bars.proofs.Leads.{mem-by, first-by, none-by}
 use Rattle.layers.specs.Fill.{Filled}
 use Rattle.first_walk.specs.declared.Ahead.{Ahead}
 use Rattle.first_walk.specs.declared.Ahead.the-variants.{Shut, To}
 use Rattle.first_walk.specs.declared.Tried.{Tried}
 use Rattle.first_walk.specs.declared.Tried.the-variants.{Found, NoWalk, Unknown}
-use Rattle.first_walk.specs.Walk.{placeBy, hasBy, codeOf, Meets, Fails, goesBy, onFrom, Written, Dead, DivedBy, Dived, LedBy, Led, Seen}
-use Rattle.first_walk.proofs.Ways.{first-by, none-by, mem-by}
+use Rattle.first_walk.specs.Walk.{codeOf, Meets, Fails, goesBy, onFrom, Written, Dead, DivedBy, Dived, LedBy, Led, Seen}
 
 zeros : (n x : ℕ) → _≡_ {A = ℕ} (getD (replicate n 0) x 0) 0
 zeros zero x = refl

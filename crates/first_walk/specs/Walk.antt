@@ -1,7 +1,7 @@
 -- What the walk is given, where it is, what it remembers, and what it answers. Assumes nothing.
-use Prim.Native.Nat.{ℕ, zero, suc, _+_, _-_, _*_, _%_, _≤_, _<_}
+use Prim.Native.Nat.{ℕ, _+_, _-_, _*_, _%_, _≤_, _<_}
 use mathlib.Core.Path.{_≡_}
-use mathlib.Core.Bool.{Bool, true, _&&_}
+use mathlib.Core.Bool.{Bool, _&&_}
 use mathlib.Core.List.{List, _∷_}
 use lib.ListN.{length, getD}
 use lib.Dec.{T}
@@ -12,11 +12,11 @@ use Rattle.deck.specs.declared.Task.{Task}
 use Rattle.deck.specs.declared.Constraint.{Constraint}
 use Rattle.kernel.specs.Layers.{pass, back, good, trace}
 use Rattle.kernel.specs.Goals.{up}
-use Rattle.kernel.specs.Near.{hasAbove, hasLeft, hasRight, hasBelow}
 use Rattle.kernel.specs.Parts.{partsOf}
 use Rattle.kernel.specs.Kernel.{hind, pathAt}
 use Rattle.bars.specs.Padded.{padOf}
 use Rattle.bars.specs.Bars.{Chained}
+use Rattle.bars.specs.Ways.{placeBy, hasBy}
 use Rattle.layers.specs.Fill.{Filled}
 use Rattle.passes.specs.Ready.{Ready, Goals}
 use Rattle.bounds.specs.Low.{Low}
@@ -25,25 +25,6 @@ use Rattle.first_walk.specs.declared.Ahead.{Ahead}
 use Rattle.first_walk.specs.declared.Ahead.the-variants.{Shut, To}
 use Rattle.first_walk.specs.declared.Tried.{Tried}
 use Rattle.first_walk.specs.declared.Tried.the-variants.{Found, NoWalk, Unknown}
-
--- how far the way x leads on a grid of width w, plus w: above, left, to the place itself, right, below
-abbrev pub turnOf : ℕ → ℕ → ℕ
-turnOf w zero = 0
-turnOf w (suc zero) = w - 1
-turnOf w (suc (suc zero)) = w
-turnOf w (suc (suc (suc zero))) = w + 1
-turnOf w (suc (suc (suc (suc x)))) = 2 * w
-
--- the place by the way x, and whether the grid has it
-abbrev pub placeBy : Sheet → ℕ → ℕ → ℕ
-placeBy d u x = u + turnOf (d .width) x - d .width
-
-abbrev pub hasBy : Sheet → ℕ → ℕ → Bool
-hasBy d u zero = hasAbove d u
-hasBy d u (suc zero) = hasLeft d u
-hasBy d u (suc (suc zero)) = true
-hasBy d u (suc (suc (suc zero))) = hasRight d u
-hasBy d u (suc (suc (suc (suc x)))) = hasBelow d u
 
 -- where a place that failed is remembered, and its number there
 abbrev pub slotOf : ℕ → ℕ → ℕ

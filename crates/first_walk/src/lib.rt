@@ -14,7 +14,7 @@ ghost use Rattle.kernel.specs.Parts.{freePlace, freeMove};
 ghost use Rattle.bars.specs.Bars.{countIn, Chained};
 ghost use Rattle.passes.specs.Ready.{Ready, Goals};
 ghost use Rattle.bounds.specs.Low.{Low};
-ghost use Rattle.first_walk.specs.Walk.{turnOf, slotOf, codeOf, Dead, Dived, Led, On, Seen, Given, Walked};
+ghost use Rattle.first_walk.specs.Walk.{slotOf, codeOf, Dead, Dived, Led, On, Seen, Given, Walked};
 
 pub enum Tried {
     Found,
@@ -46,26 +46,6 @@ fn wide32(x: u32) -> usize
     ensures { λ r. ⌜ r ≡ x ⌝ }
 {
     x as usize
-}
-
-// How far the way x leads on a grid of width w, plus w: above, left, to the place itself, right, below.
-fn turn(w: usize, x: usize) -> usize
-    requires { ⌜ (1 ≤ w) × (w ≤ 34) × (x < 5) ⌝ }
-    ensures { λ r. ⌜ (r ≡ turnOf w x) × (r ≤ 68) ⌝ }
-{
-    if x == 0 {
-        return 0;
-    }
-    if x == 1 {
-        return w - 1;
-    }
-    if x == 2 {
-        return w;
-    }
-    if x == 3 {
-        return w + 1;
-    }
-    2 * w
 }
 
 // Where a place that failed is remembered, and its number there.
@@ -139,11 +119,11 @@ fn look(
     requires { ⌜ Given (now s) i j (now mask) (now goals) (now records) (now heads) (now links) (now table) l × On (read (now s)) j (l .end) t u p k × Dead (read (now s)) i j (constraintsOf (now records)) (l .end) (now dead) × (t < l .end) × (x < 5) ⌝ }
     ensures { λ r. ⌜ Seen (read (now (s .entry))) i j (constraintsOf (now (records .entry))) (l .end) t u k x r ⌝ }
 {
-    let q = p + turn(l.w + 2, x) - (l.w + 2);
+    let q = p + bars::turn(l.w + 2, x) - (l.w + 2);
     if mask[q] == 0 {
         return Ahead::Shut;
     }
-    let v = u + turn(l.w, x) - l.w;
+    let v = u + bars::turn(l.w, x) - l.w;
     let c = trace::visit(goals, l.n, k, q);
     if l.end < t + 1 + wide8(table[1024 * c + v]) {
         return Ahead::Shut;

@@ -24,6 +24,7 @@ use Rattle.meaning.proofs.Paths.{path-finish, free-meant, step-meant}
 use Rattle.meaning.proofs.LeastPath.{least-path-is, no-least-path}
 use Rattle.kernel.specs.Layers.{Parts, pass}
 use Rattle.kernel.specs.Goals.{up}
+use Rattle.kernel.specs.Near.{near}
 use Rattle.kernel.specs.Parts.{barsPlace, barsMove, freePlace, freeMove, stands, stepFree, partsOf}
 use Rattle.kernel.proofs.Both.{and-left, and-right, and-both}
 use Rattle.kernel.proofs.Labels.{up-ge, up-le, up-mono, up-twice, lowered-iff, left-after, visited, visited-le}
@@ -73,6 +74,11 @@ pub step-free-meant : (d : Sheet) (u v : ℕ) → Says (stepFree d u v) (Free d 
 unfolding stepFree
 step-free-meant d u v = says-and (free-meant d u) (says-and (free-meant d v) (step-meant d u v))
 
+-- a step leads to a place around
+pub step-around : (d : Sheet) (u v : ℕ) → T (stepFree d u v) → Mem v (near d u)
+step-around d u v h = let r = step-free-meant d u v .fact h in
+    ⊎-elim (λ e. subst (λ (x : ℕ). Mem x (near d u)) e (self-near d u)) (λ b. beside-near d u v (r .0 .on-grid) (r .1 .0 .on-grid) (b .1)) (r .1 .1)
+
 -- the time of a constraint lies within the horizon
 abbrev pub InTime : ℕ → Constraint → Type 0
 InTime h (Place a u t) = t ≤ h
@@ -109,8 +115,7 @@ module _ (d : Sheet) (i : Carrier) (j : Task) (cs : List Constraint) (start : T 
 
   pub sheet-laws : Laws w
   sheet-laws = record {
-    onward = λ t u v h. let r = step-free-meant d u v .fact (and-left (stepFree d u v) (freeMove i cs t u v) h) in
-        ⊎-elim (λ e. subst (λ (x : ℕ). Mem x (w .succs u)) e (self-near d u)) (λ b. beside-near d u v (r .0 .on-grid) (r .1 .0 .on-grid) (b .1)) (r .1 .1);
+    onward = λ t u v h. step-around d u v (and-left (stepFree d u v) (freeMove i cs t u v) h);
     behind = λ t u v h. let r = step-free-meant d u v .fact (and-left (stepFree d u v) (freeMove i cs t u v) h) in
         ⊎-elim (λ e. subst (λ (x : ℕ). Mem x (w .preds v)) (sym e) (self-near d v)) (λ b. beside-near d v u (r .1 .0 .on-grid) (r .0 .on-grid) (beside-turned d u v (b .1))) (r .1 .1);
     rising = near-rising d (wide-of (d .width) (d .height) (startOf d i) (start-free .on-grid));

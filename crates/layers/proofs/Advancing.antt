@@ -2,7 +2,7 @@
 use Prim.Native.Nat.{ℕ, zero, suc, _+_, _-_, _*_, _≤_, _<_}
 use mathlib.Core.Path.{_≡_, refl, sym, ap, _∙_, subst}
 use mathlib.Core.Logic.{⊎-elim}
-use mathlib.Core.Bool.{Bool, true, false, cond, _&&_}
+use mathlib.Core.Bool.{Bool, true, false, cond}
 use mathlib.Core.List.{List}
 use native.Mathlib.Nat.{le-trans}
 use native.Mathlib.Omega.{arith}
@@ -11,7 +11,7 @@ use lib.Seq.{getD-set-same, getD-set-other}
 use lib.Dec.{eqb}
 use borrow.Author.Tests.{eq-eqb, ne-eqb}
 use native.Mathlib.Decide.{ℕ-discrete}
-use Rattle.deck.specs.Sheet.{Sheet, free, carrier}
+use Rattle.deck.specs.Sheet.{Sheet, carrier}
 use Rattle.deck.specs.Calls.{recordWord, constraintsOf}
 use Rattle.kernel.specs.Layers.{lift}
 use Rattle.kernel.specs.Goals.{up}
@@ -75,11 +75,6 @@ module _ (w h : ℕ) (mask rs : List ℕ) (i : ℕ) (heads links : List ℕ) (t 
         (subst (λ (z : ℕ). Filled (w + 2) ((w + 2) * (z + 1)) (spreadAt src mask (w + 2)) before after) (sym (g .height)) fill));
   }
 
-  and-cond : (a b : Bool) → _≡_ {A = ℕ} (cond b (cond a 255 0) 0) (cond (a && b) 255 0)
-  and-cond true b = refl
-  and-cond false true = refl
-  and-cond false false = refl
-
   -- over the ways that the carrier's constraints leave
   pub ways-advanced : (copies ways : List ℕ) → OnLayer w rs → Copies mask copies → Cleared rs i t (moveSlot rs w back) 0 copies ways
       → Filled (w + 2) ((w + 2) * (h + 1)) (spreadBy src ways (w + 2)) before after → Advanced w h mask (carrier i) (constraintsOf rs) t back src before after
@@ -101,9 +96,8 @@ module _ (w h : ℕ) (mask rs : List ℕ) (i : ℕ) (heads links : List ℕ) (t 
         (λ r q. subst (λ (z : ℕ). (padOf z (recordWord rs r 2) < 1156) × (padOf z (recordWord rs r 3) < 1156)) (sym e) (on r q .2, on r q .3))
         (subst (λ (z : ℕ). Cleared rs i t (moveSlot rs z back) 0 copies ways) (sym e) c)
         ∙ ap (λ (z : ℕ). cond (moveFree d (carrier i) (constraintsOf rs) t back u v) z 0)
-        (cop .copied (wayOf (d .width + 2) (padOf (d .width) u) (padOf (d .width) v)) l (padOf (d .width) v) pv ∙ g .masked .inside v a)
-        ∙ and-cond (free d v) (moveFree d (carrier i) (constraintsOf rs) t back u v))
-        small (omega arith)
+        (cop .copied (wayOf (d .width + 2) (padOf (d .width) u) (padOf (d .width) v)) l (padOf (d .width) v) pv ∙ g .masked .inside v a))
+        small
         (subst (λ (z : ℕ). Filled (z + 2) ((z + 2) * (d .height + 1)) (spreadBy src ways (z + 2)) before after) (sym e)
         (subst (λ (z : ℕ). Filled (w + 2) ((w + 2) * (z + 1)) (spreadBy src ways (w + 2)) before after) (sym k) fill));
   }

@@ -6,23 +6,23 @@ use mathlib.Core.Bool.{Bool, true, false, cond, _&&_}
 use mathlib.Core.List.{List}
 use native.Mathlib.Omega.{arith}
 use lib.ListN.{getD}
-use lib.Dec.{T, ltb→lt}
+use lib.Dec.{T}
 use Rattle.deck.specs.Sheet.{Sheet, area, free}
 use Rattle.deck.specs.declared.Carrier.{Carrier}
 use Rattle.deck.specs.declared.Constraint.{Constraint}
-use Rattle.meaning.specs.Meaning.{Beside}
-use Rattle.kernel.specs.Near.{hasAbove, hasLeft, hasRight, hasBelow}
 use Rattle.kernel.specs.Parts.{freeMove, stepFree}
+use Rattle.kernel.proofs.Both.{and-turned}
 use Rattle.kernel.proofs.Choice.{lt-or-ge}
-use Rattle.kernel.proofs.Near.{right-inside, beside-turned, above-beside, left-beside, right-beside, below-beside}
-use Rattle.bars.specs.Padded.{padOf, Border, Holds, MaskOf}
+use Rattle.bars.specs.Padded.{padOf, Border, Holds, shade, MaskOf, Gate}
 use Rattle.bars.specs.Bars.{wayOf, slotOf}
-use Rattle.bars.proofs.Grid.{pad-least, pad-most, pad-above, pad-left, pad-right, pad-below}
-use Rattle.bars.proofs.Ways.{way-above, way-left, way-same, way-right, way-below}
+use Rattle.bars.specs.Ways.{moveBy, placeBy, hasBy, wayBack, leaves}
+use Rattle.bars.proofs.Gates.{shade-gate, gate-if}
+use Rattle.bars.proofs.Grid.{pad-least, pad-most}
+use Rattle.bars.proofs.Leads.{leads, layer-by, way-by, step-by, step-into, leaves-any}
 use Rattle.layers.specs.Fill.{Filled}
 use Rattle.layers.specs.Spread.{spreadAt, spreadBy}
 use Rattle.layers.specs.Step.{mayGo, around, Labels, Margin}
-use Rattle.layers.proofs.Around.{best-near, from-above, from-left, from-right, from-below, step-near, way-term}
+use Rattle.layers.proofs.Around.{labelBy, best-near, way-term}
 
 min-max : (a b m : ℕ) → min (max a b) m ≡ max (min a m) (min b m)
 min-max a b m = omega arith
@@ -33,63 +33,83 @@ min-five a l s r b m =
     min-max (max (max a l) (max s r)) b m
     ∙ ap (λ (z : ℕ). max z (min b m)) (min-max (max a l) (max s r) m ∙ ap₂ max (min-max a l m) (min-max s r m))
 
-and-turned : (a b : Bool) → (a && b) ≡ (b && a)
-and-turned true true = refl
-and-turned true false = refl
-and-turned false true = refl
-and-turned false false = refl
+-- a step may be taken: from a free place, the move not barred, by a way that is open, to a free place
+arrange : (o a b move : Bool) → ((o && (a && b)) && move) ≡ (a && (move && (o && b)))
+arrange true true true true = refl
+arrange true true true false = refl
+arrange true true false true = refl
+arrange true true false false = refl
+arrange true false b move = refl
+arrange false true b true = refl
+arrange false true b false = refl
+arrange false false b move = refl
 
 module _ (d : Sheet) (i : Carrier) (cs : List Constraint) (t : ℕ) (back : Bool) where
-  -- whether the move by a way is free
+  -- whether the move from u to v, or backward from v to u, is free
   abbrev pub moveFree : ℕ → ℕ → Bool
   moveFree u v = cond back (freeMove i cs t v u) (freeMove i cs t u v)
 
-  turned : (u v : ℕ) → (u ≡ v) ⊎ Beside d u v → (v ≡ u) ⊎ Beside d v u
-  turned u v (inl e) = inl (sym e)
-  turned u v (inr b) = inr (beside-turned d u v b)
+  -- whether the place by the way x may be left to v, or backward v to it
+  abbrev pub opens : ℕ → ℕ → Bool
+  opens v x = cond back (leaves d v x) (leaves d (placeBy d v x) (wayBack x))
 
-  may-is : (u v : ℕ) → (u ≡ v) ⊎ Beside d u v → mayGo d i cs t back v u ≡ ((free d u && free d v) && moveFree u v)
-  may-is u v h = go back
+  -- whether a label may come to v by the way x, if it is at a free place
+  abbrev pub mayCome : ℕ → ℕ → Bool
+  mayCome v x = moveFree (placeBy d v x) v && (opens v x && free d v)
+
+  may-is : (v : ℕ) → v < area d → (x : ℕ) → x < 5 → T (hasBy d v x) → mayGo d i cs t back v (placeBy d v x) ≡ (free d (placeBy d v x) && mayCome v x)
+  may-is v on x l h = go back
     where
+      u : ℕ
+      u = placeBy d v x
+
       go : (b : Bool) → cond b (stepFree d v u && freeMove i cs t v u) (stepFree d u v && freeMove i cs t u v)
-          ≡ ((free d u && free d v) && cond b (freeMove i cs t v u) (freeMove i cs t u v))
-      go true = rw (step-near d v u (turned u v h), and-turned (free d v) (free d u)) refl
-      go false = rw (step-near d u v h) refl
+          ≡ (free d u && (cond b (freeMove i cs t v u) (freeMove i cs t u v) && (cond b (leaves d v x) (leaves d u (wayBack x)) && free d v)))
+      go true = rw (step-by d v on x l h, and-turned (free d v) (free d u)) (arrange (leaves d v x) (free d u) (free d v) (freeMove i cs t v u))
+      go false = rw (step-into d v on x l h) (arrange (leaves d u (wayBack x)) (free d u) (free d v) (freeMove i cs t u v))
 
-  module _ (f : ℕ → ℕ) (labels : Labels d f) (v : ℕ) where
-    way-is : (has : Bool) (u x m : ℕ) → (T has → (u ≡ v) ⊎ Beside d u v) → x ≡ cond has (f u) 0 → (T has → m ≡ cond (free d v && moveFree u v) 255 0)
-        → min x m ≡ cond (has && mayGo d i cs t back v u) (f u) 0
-    way-is true u x m h e g =
-        rw (e, may-is u v (h tt)) (way-term true (free d v) (free d u) (moveFree u v) (f u) m (labels .small u) (λ q. labels .blocked u (λ y. subst T q y)) g)
-    way-is false u x m h e g = rw e (omega arith)
+  -- five labels with their gates, and the greatest of the layer around v
+  module _ (y : List ℕ) (f : ℕ → ℕ) (h : Holds d y f) (labels : Labels d f) (v : ℕ) (on : v < area d) where
+    abbrev Through : ℕ → ℕ → Type 0
+    Through x m = T (hasBy d v x) → Gate (mayCome v x) m
 
-  -- five labels with their masks, and the greatest of the layer around v
-  module _ (x : List ℕ) (f : ℕ → ℕ) (h : Holds d x f) (labels : Labels d f) (v : ℕ) (on : v < area d) (m0 m1 m2 m3 m4 : ℕ) where
-    pub record Masks : Type 0 where
-      pub above : T (hasAbove d v) → m0 ≡ cond (free d v && moveFree (v - d .width) v) 255 0
-      pub left : T (hasLeft d v) → m1 ≡ cond (free d v && moveFree (v - 1) v) 255 0
-      pub same : m2 ≡ cond (free d v && moveFree v v) 255 0
-      pub right : T (hasRight d v) → m3 ≡ cond (free d v && moveFree (v + 1) v) 255 0
-      pub below : T (hasBelow d v) → m4 ≡ cond (free d v && moveFree (v + d .width) v) 255 0
+    way-is : (x : ℕ) → x < 5 → (p m : ℕ) → p ≡ moveBy (d .width + 2) (padOf (d .width) v) x → Through x m
+        → min (getD y p 0) m ≡ labelBy d (mayGo d i cs t back v) f v on x
+    way-is x l p m e g =
+        rw (e, layer-by d v on y f h x l)
+        (way-term (hasBy d v x) (free d (placeBy d v x)) (mayCome v x) (f (placeBy d v x)) m (labels .small (placeBy d v x)) (λ q. labels .blocked (placeBy d v x) (λ z. subst T q z)) g
+        ∙ ap (λ (b : Bool). cond b (f (placeBy d v x)) 0) (and-if (hasBy d v x) (λ t. sym (may-is v on x l t))))
+      where
+        and-if : (b : Bool) {a c : Bool} → (T b → a ≡ c) → (b && a) ≡ (b && c)
+        and-if true e = e tt
+        and-if false e = refl
 
-    pub five : Masks
-        → max
-        (max
-        (max (min (getD x (padOf (d .width) v - (d .width + 2)) 0) m0) (min (getD x (padOf (d .width) v - 1) 0) m1))
-        (max (min (getD x (padOf (d .width) v) 0) m2) (min (getD x (padOf (d .width) v + 1) 0) m3)))
-        (min (getD x (padOf (d .width) v + (d .width + 2)) 0) m4)
-        ≡ around d i cs t back f v
-    five m =
-        ap₂ max
-        (ap₂ max
-        (ap₂ max
-        (way-is f labels v (hasAbove d v) (v - d .width) _ m0 (λ q. inr (beside-turned d v _ (above-beside d v on q))) (from-above d x f h v on) (m .above))
-        (way-is f labels v (hasLeft d v) (v - 1) _ m1 (λ q. inr (beside-turned d v _ (left-beside d v on q))) (from-left d x f h v on) (m .left)))
-        (ap₂ max
-        (way-is f labels v true v _ m2 (λ q. inl refl) (h .inside v on) (λ q. m .same))
-        (way-is f labels v (hasRight d v) (v + 1) _ m3 (λ q. inr (beside-turned d v _ (right-beside d v q))) (from-right d x f h v on) (m .right))))
-        (way-is f labels v (hasBelow d v) (v + d .width) _ m4 (λ q. inr (beside-turned d v _ (below-beside d v on))) (from-below d x f h v on) (m .below))
-        ∙ sym (best-near d (mayGo d i cs t back v) f v)
+    module _ (m0 m1 m2 m3 m4 : ℕ) where
+      pub record Gates : Type 0 where
+        pub above : Through 0 m0
+        pub left : Through 1 m1
+        pub same : Through 2 m2
+        pub right : Through 3 m3
+        pub below : Through 4 m4
+
+      pub five : Gates
+          → max
+          (max
+          (max (min (getD y (padOf (d .width) v - (d .width + 2)) 0) m0) (min (getD y (padOf (d .width) v - 1) 0) m1))
+          (max (min (getD y (padOf (d .width) v) 0) m2) (min (getD y (padOf (d .width) v + 1) 0) m3)))
+          (min (getD y (padOf (d .width) v + (d .width + 2)) 0) m4)
+          ≡ around d i cs t back f v
+      five g =
+          ap₂ max
+          (ap₂ max
+          (ap₂ max
+          (way-is 0 (omega arith) (padOf (d .width) v - (d .width + 2)) m0 (omega arith) (g .above))
+          (way-is 1 (omega arith) (padOf (d .width) v - 1) m1 (omega arith) (g .left)))
+          (ap₂ max
+          (way-is 2 (omega arith) (padOf (d .width) v) m2 (omega arith) (g .same))
+          (way-is 3 (omega arith) (padOf (d .width) v + 1) m3 (omega arith) (g .right))))
+          (way-is 4 (omega arith) (padOf (d .width) v + (d .width + 2)) m4 (omega arith) (g .below))
+          ∙ sym (best-near d (mayGo d i cs t back v) f v on)
 
 -- a padded place outside the rows of the grid, or in them
 outside-or-in : (p a b : ℕ) → ((p < a) ⊎ (b ≤ p)) ⊎ ((a ≤ p) × (p < b))
@@ -127,6 +147,14 @@ five-none a l s r b {m0} {m1} {m2} {m3} {m4} e0 e1 e2 e3 e4 =
 
 module _ (d : Sheet) (i : Carrier) (cs : List Constraint) (t : ℕ) (back : Bool) (src mask before after : List ℕ) (f : ℕ → ℕ)
     (masked : MaskOf d mask) (labels : Labels d f) (h : Holds d src f) (m : Margin (d .width) (d .height) before) where
+  -- every way is open, so what the mask says of the place is enough
+  all-open : (v x n : ℕ) → Gate (free d v) n → Gate (opens d i cs t back v x && free d v) n
+  all-open v x n g = rw (go back) g
+    where
+      go : (b : Bool) → cond b (leaves d v x) (leaves d (placeBy d v x) (wayBack x)) ≡ true
+      go true = leaves-any d v x
+      go false = leaves-any d (placeBy d v x) (wayBack x)
+
   -- without a constraint on moves at t one mask serves the five ways
   pub plain-holds : ((u v : ℕ) → freeMove i cs t u v ≡ true)
       → Filled (d .width + 2) ((d .width + 2) * (d .height + 1)) (spreadAt src mask (d .width + 2)) before after → Holds d after (around d i cs t back f)
@@ -135,7 +163,7 @@ module _ (d : Sheet) (i : Carrier) (cs : List Constraint) (t : ℕ) (back : Bool
       min-five (getD src (padOf (d .width) v - (d .width + 2)) 0) (getD src (padOf (d .width) v - 1) 0) (getD src (padOf (d .width) v) 0)
       (getD src (padOf (d .width) v + 1) 0) (getD src (padOf (d .width) v + (d .width + 2)) 0) (getD mask (padOf (d .width) v) 0)
       ∙ five d i cs t back src f h labels v on (at v) (at v) (at v) (at v) (at v)
-      (record { above = λ q. one v _ on; left = λ q. one v _ on; same = one v _ on; right = λ q. one v _ on; below = λ q. one v _ on }))
+      (record { above = λ q. one v on 0; left = λ q. one v on 1; same = λ q. one v on 2; right = λ q. one v on 3; below = λ q. one v on 4 }))
       (λ p b l k. min-zero _ (getD mask p 0) (masked .border p b))
     where
       at : ℕ → ℕ
@@ -148,40 +176,34 @@ module _ (d : Sheet) (i : Carrier) (cs : List Constraint) (t : ℕ) (back : Bool
           go true = all-free v u
           go false = all-free u v
 
-      one : (v u : ℕ) → v < area d → getD mask (padOf (d .width) v) 0 ≡ cond (free d v && moveFree d i cs t back u v) 255 0
-      one v u on = masked .inside v on ∙ rw (free-move u v) (both (free d v))
-        where
-          both : (b : Bool) → _≡_ {A = ℕ} (cond b 255 0) (cond (b && true) 255 0)
-          both true = refl
-          both false = refl
+      one : (v : ℕ) → v < area d → (x : ℕ) → Gate (mayCome d i cs t back v x) (at v)
+      one v on x = rw (free-move (placeBy d v x) v, masked .inside v on) (all-open v x (shade d v) (shade-gate d v))
 
   -- with constraints each way has the mask that is left of it
   pub ways-holds : (ways : List ℕ) → ((k : ℕ) → k < 5 → (p : ℕ) → p < 1156 → getD ways (1156 * k + p) 0 ≤ getD mask p 0)
       → ((u v : ℕ) → v < area d → u < area d → wayOf (d .width + 2) (padOf (d .width) u) (padOf (d .width) v) < 5
-      → getD ways (slotOf (d .width + 2) (padOf (d .width) u) (padOf (d .width) v)) 0 ≡ cond (free d v && moveFree d i cs t back u v) 255 0)
-      → (d .width + 2) * (d .height + 1) ≤ 1156 → 0 < d .width
+      → getD ways (slotOf (d .width + 2) (padOf (d .width) u) (padOf (d .width) v)) 0 ≡ cond (moveFree d i cs t back u v) (shade d v) 0)
+      → (d .width + 2) * (d .height + 1) ≤ 1156
       → Filled (d .width + 2) ((d .width + 2) * (d .height + 1)) (spreadBy src ways (d .width + 2)) before after → Holds d after (around d i cs t back f)
-  ways-holds ways less left small z fill = filled-holds d (spreadBy src ways (d .width + 2)) (around d i cs t back f) before after fill m
+  ways-holds ways less left small fill = filled-holds d (spreadBy src ways (d .width + 2)) (around d i cs t back f) before after fill m
       (λ v on. five d i cs t back src f h labels v on
       (getD ways (padOf (d .width) v) 0) (getD ways (1156 + padOf (d .width) v) 0) (getD ways (2312 + padOf (d .width) v) 0)
       (getD ways (3468 + padOf (d .width) v) 0) (getD ways (4624 + padOf (d .width) v) 0)
       (record {
-        above = λ q. by-way v on (v - d .width) 0 (omega arith) (omega arith) (omega arith) (way-above (d .width + 2) (padOf (d .width) (v - d .width)) (padOf (d .width) v) (omega (arith, pad-above d v on q, pad-least d v on)));
-        left = λ q. by-way v on (v - 1) 1 (omega arith) (omega arith) (omega arith) (way-left (d .width + 2) (padOf (d .width) (v - 1)) (padOf (d .width) v) (λ e. omega (arith, pad-left d v on q)) (omega (arith, pad-left d v on q)));
-        same = by-way v on v 2 (omega arith) on (omega arith) (way-same (d .width + 2) (padOf (d .width) v) (padOf (d .width) v) (λ e. omega arith) (λ e. omega arith) refl);
-        right = λ q. by-way v on (v + 1) 3 (omega arith) (right-inside d v on q) (omega arith)
-            (way-right (d .width + 2) (padOf (d .width) (v + 1)) (padOf (d .width) v) (λ e. omega (arith, pad-right d v on q)) (λ e. omega (arith, pad-right d v on q)) (λ e. omega (arith, pad-right d v on q)) (pad-right d v on q));
-        below = λ q. by-way v on (v + d .width) 4 (omega arith) (ltb→lt (v + d .width) (area d) q) (omega arith)
-            (way-below (d .width + 2) (padOf (d .width) (v + d .width)) (padOf (d .width) v) (λ e. omega (arith, pad-below (d .width) v z)) (λ e. omega (arith, pad-below (d .width) v z)) (λ e. omega (arith, pad-below (d .width) v z))
-            (λ e. omega (arith, pad-below (d .width) v z)) (pad-below (d .width) v z));
+        above = by-way v on 0 (omega arith) (omega arith);
+        left = by-way v on 1 (omega arith) (omega arith);
+        same = by-way v on 2 (omega arith) (omega arith);
+        right = by-way v on 3 (omega arith) (omega arith);
+        below = by-way v on 4 (omega arith) (omega arith);
       }))
       (λ p b l k. none p (masked .border p b) (omega arith))
     where
-      by-way : (v : ℕ) → v < area d → (u k : ℕ) {q : ℕ} → q ≡ 1156 * k + padOf (d .width) v → u < area d → k < 5
-          → k ≡ wayOf (d .width + 2) (padOf (d .width) u) (padOf (d .width) v) → getD ways q 0 ≡ cond (free d v && moveFree d i cs t back u v) 255 0
-      by-way v on u k {q} s in-grid l e =
-          let x : q ≡ slotOf (d .width + 2) (padOf (d .width) u) (padOf (d .width) v) = omega arith in
-          rw x (left u v on in-grid (omega arith))
+      by-way : (v : ℕ) → v < area d → (x : ℕ) {q : ℕ} → q ≡ 1156 * x + padOf (d .width) v → x < 5 → T (hasBy d v x) → Gate (mayCome d i cs t back v x) (getD ways q 0)
+      by-way v on x {q} s l h =
+          let u : ℕ = placeBy d v x in
+          let e = way-by d v on x l h in
+          let r : q ≡ slotOf (d .width + 2) (padOf (d .width) u) (padOf (d .width) v) = omega (arith, e) in
+          rw (r, left u v on (leads d v on x l h .inside) (omega (arith, e))) (gate-if (moveFree d i cs t back u v) (all-open v x (shade d v) (shade-gate d v)))
 
       zero-at : (p : ℕ) → getD mask p 0 ≡ 0 → p < 1156 → (k q : ℕ) → k < 5 → q ≡ 1156 * k + p → getD ways q 0 ≡ 0
       zero-at p e l k q b s = rw s (omega (arith, less k b p l))

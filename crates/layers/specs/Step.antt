@@ -33,9 +33,9 @@ pub record Ground (d : Sheet) (w h : ℕ) (mask : List ℕ) : Type 0 where
   pub height : d .height ≡ h
   pub masked : MaskOf d mask
 
--- labels are bytes, and 0 at a blocked place
+-- labels are small enough to pass through the mask whole, and 0 at a blocked place
 pub record Labels (d : Sheet) (f : ℕ → ℕ) : Type 0 where
-  pub small : (v : ℕ) → f v < 256
+  pub small : (v : ℕ) → f v < 224
   pub blocked : (v : ℕ) → ¬ T (free d v) → f v ≡ 0
 
 -- above and below the grid a layer is 0

@@ -2,18 +2,17 @@
 use Prim.Native.Nat.{ℕ, _+_, _-_, _*_, _≤_, _<_}
 use mathlib.Core.Path.{_≡_, refl, sym, ap, _∙_, subst}
 use mathlib.Core.Logic.{⊎-elim}
-use mathlib.Core.Bool.{cond}
 use mathlib.Core.List.{List}
 use native.Mathlib.Nat.{mul-add, add-mul, suc-mul, mul-comm, mul-le-mul-right, div-lt-iff-lt-mul}
 use native.Mathlib.Omega.{arith}
 use lib.ListN.{length, getD, drop, replicate, length-replicate, getD-replicate, List·getD-eq-default}
 use lib.Seq.{getD-take, getD-drop}
 use borrow.Author.Tests.{lt-ltb}
-use Rattle.deck.specs.Sheet.{Sheet, read, area, free, cause, wordAt, gridPair, gridStretch}
+use Rattle.deck.specs.Sheet.{Sheet, read, area, cause, wordAt, gridPair, gridStretch}
 use Rattle.meaning.proofs.Accepted.{accepted, accepted-inside, directory-says}
 use Rattle.sheet.proofs.Accepted.{width-range, height-range}
 use Rattle.kernel.proofs.Choice.{lt-or-ge}
-use Rattle.bars.specs.Padded.{padOf, MaskOf}
+use Rattle.bars.specs.Padded.{padOf, shade, MaskOf}
 use Rattle.bars.proofs.Grid.{pad-row, size-of, size-small}
 use Rattle.layers.specs.Fill.{Filled}
 use Rattle.mask.specs.Mask.{shadeOf, Masked}
@@ -39,7 +38,8 @@ module _ (s : List ℕ) (ok : cause s ≡ 0) where
   grid-at : (v : ℕ) → v < area d → getD (d .grid) v 0 ≡ getD s (o + v) 0
   grid-at v h = getD-take (gridStretch s .size) (drop (gridStretch s .offset) s) v 0 (omega (arith, grid-size)) ∙ getD-drop (gridStretch s .offset) s v 0
 
-  shade-at : (v : ℕ) → v < area d → shadeOf (getD s (o + v) 0) ≡ cond (free d v) 255 0
+  shade-at : (v : ℕ) → v < area d → shadeOf (getD s (o + v) 0) ≡ shade d v
+  unfolding shade
   shade-at v h = rw (lt-ltb v (area d) h, grid-at v h) refl
 
   z : 0 < w
@@ -82,7 +82,7 @@ module _ (s : List ℕ) (ok : cause s ≡ 0) where
       lower : (v : ℕ) → v < y * w → padOf w v < y * (w + 2) + w + 3
       lower v a = omega (arith, div-lt-iff-lt-mul z .1 a, mul-add y w 2)
 
-      new : (v : ℕ) → y * w ≤ v → v < y * w + w → getD after (padOf w v) 0 ≡ cond (free d v) 255 0
+      new : (v : ℕ) → y * w ≤ v → v < y * w + w → getD after (padOf w v) 0 ≡ shade d v
       new v a b =
           let x : ℕ = v - y * w in
           let q : v ≡ y * w + x = omega arith in

@@ -6,8 +6,8 @@ use mathlib.Core.Bool.{cond}
 use mathlib.Core.List.{List}
 use lib.ListN.{length, getD}
 use lib.Dec.{eqb}
-use Rattle.deck.specs.Sheet.{Sheet, free}
-use Rattle.bars.specs.Padded.{padOf}
+use Rattle.deck.specs.Sheet.{Sheet}
+use Rattle.bars.specs.Padded.{padOf, shade}
 
 -- 255 for a grid byte that says free
 abbrev pub shadeOf : ℕ → ℕ
@@ -16,5 +16,5 @@ shadeOf b = cond (eqb b 0) 255 0
 -- the mask has the first n places of the sheet, and is 0 elsewhere
 pub record Masked (d : Sheet) (n : ℕ) (mask : List ℕ) : Type 0 where
   pub size : length mask ≡ 1156
-  pub inside : (v : ℕ) → v < n → getD mask (padOf (d .width) v) 0 ≡ cond (free d v) 255 0
+  pub inside : (v : ℕ) → v < n → getD mask (padOf (d .width) v) 0 ≡ shade d v
   pub border : (p : ℕ) → ((v : ℕ) → v < n → padOf (d .width) v ≢ p) → getD mask p 0 ≡ 0

@@ -43,7 +43,7 @@ module _ (s : List ℕ) (i : Carrier) (j : Task) (mask rs : List ℕ) (r : Ready
   abbrev many : ℕ
   many = length (goalsOf (read s) j)
 
-  -- Labels are bytes and vanish at blocked places
+  -- Labels pass through the mask whole, and vanish at blocked places
   fore-labels : (t : ℕ) → Labels d (fore d i j cs t)
   fore-labels t = record {
     small = λ v. omega (arith, fore-le d i j cs t v, few-goals r);

@@ -1,30 +1,32 @@
 -- A look around a place finds the next place of the trace. Assumes nothing.
 use Prim.Native.Nat.{ℕ, zero, suc, _+_, _-_, _≤_, _<_}
 use mathlib.Core.Path.{_≡_, refl, sym, ap, _∙_, subst}
-use mathlib.Core.Logic.{_⊎_, _≢_}
-use mathlib.Core.Bool.{Bool, true, false, cond, _&&_}
+use mathlib.Core.Logic.{_≢_}
+use mathlib.Core.Bool.{Bool, true, false, _&&_}
 use mathlib.Core.List.{List, [], _∷_}
 use native.Mathlib.Omega.{arith}
 use lib.ListN.{length, getD}
 use lib.Dec.{T, ltb}
-use borrow.Author.Tests.{eq-eqb, ne-eqb, ltb-true}
-use Rattle.deck.specs.Sheet.{Sheet, free, goalsOf, lastGoal}
+use borrow.Author.Tests.{eq-eqb, ne-eqb, lt-ltb, le-ltb}
+use Rattle.deck.specs.Sheet.{Sheet, free, goalsOf}
+use Rattle.deck.specs.Calls.{constraintsOf}
 use Rattle.deck.specs.declared.Carrier.{Carrier}
 use Rattle.deck.specs.declared.Task.{Task}
 use Rattle.deck.specs.declared.Constraint.{Constraint}
-use Rattle.meaning.specs.Meaning.{Beside}
 use Rattle.meaning.proofs.Tests.{is-true}
-use Rattle.kernel.specs.Layers.{firstOf}
+use Rattle.meaning.proofs.Paths.{free-meant}
 use Rattle.kernel.specs.Goals.{up}
-use Rattle.kernel.specs.Near.{consIf, hasAbove, hasLeft, hasRight, hasBelow, near}
-use Rattle.kernel.specs.Parts.{freeMove}
+use Rattle.kernel.specs.Parts.{freeMove, stepFree}
 use Rattle.kernel.specs.Kernel.{hind, onward}
-use Rattle.kernel.proofs.Blocked.{hind-blocked}
+use Rattle.kernel.proofs.Both.{and-left, and-turned}
+use Rattle.kernel.proofs.OfSheet.{step-free-meant}
 use Rattle.bars.specs.Padded.{padOf}
+use Rattle.bars.specs.Ways.{turnOf, moveBy}
 use Rattle.bars.proofs.Grid.{pad-inj}
+use Rattle.layers.specs.Packed.{keptAt}
 use Rattle.layers.specs.Raise.{GoalsAt}
-use Rattle.layers.proofs.Around.{step-near}
-use Rattle.trace.specs.Along.{Visited}
+use Rattle.trace.specs.declared.Look.{Look}
+use Rattle.trace.specs.Along.{Visited, spotOf, wayOn}
 
 -- a label is raised as far as the goals in front are the place
 up-run : (gs : List ℕ) (v k r : ℕ) → k ≤ r → r ≤ length gs → ((m : ℕ) → k ≤ m → m < r → getD gs m 0 ≡ v) → (r < length gs → getD gs r 0 ≢ v) → r ≡ up v gs k
@@ -42,66 +44,34 @@ visited-up w z gs goals n v p k r g e x =
     (λ m a b. pad-inj w (getD gs m 0) v z (sym (g .at m (omega (arith, x .within))) ∙ x .passed m a b ∙ e))
     (λ l h. x .stops (omega (arith, g .many)) (g .at r (omega (arith, g .many)) ∙ ap (padOf w) h ∙ sym e))
 
--- the first of a list, element by element
-first-if : (ok : ℕ → Bool) (b : Bool) (x : ℕ) (l : List ℕ) → firstOf ok (consIf b x l) ≡ cond (b && ok x) x (firstOf ok l)
-first-if ok true x l = refl
-first-if ok false x l = refl
-
-module _ (d : Sheet) (ok : ℕ → Bool) (u : ℕ) where
-  pub first-above : (hasAbove d u && ok (u - d .width)) ≡ true → u - d .width ≡ firstOf ok (near d u)
-  first-above e = rw (first-if ok (hasAbove d u) (u - d .width) (consIf (hasLeft d u) (u - 1) (u ∷ consIf (hasRight d u) (u + 1) (consIf (hasBelow d u) (u + d .width) []))), e) refl
-
-  module _ (n0 : (hasAbove d u && ok (u - d .width)) ≡ false) where
-    after0 : firstOf ok (near d u) ≡ firstOf ok (consIf (hasLeft d u) (u - 1) (u ∷ consIf (hasRight d u) (u + 1) (consIf (hasBelow d u) (u + d .width) [])))
-    after0 = rw (first-if ok (hasAbove d u) (u - d .width) (consIf (hasLeft d u) (u - 1) (u ∷ consIf (hasRight d u) (u + 1) (consIf (hasBelow d u) (u + d .width) []))), n0) refl
-
-    pub first-left : (hasLeft d u && ok (u - 1)) ≡ true → u - 1 ≡ firstOf ok (near d u)
-    first-left e = rw (after0, first-if ok (hasLeft d u) (u - 1) (u ∷ consIf (hasRight d u) (u + 1) (consIf (hasBelow d u) (u + d .width) [])), e) refl
-
-    module _ (n1 : (hasLeft d u && ok (u - 1)) ≡ false) where
-      after1 : firstOf ok (near d u) ≡ firstOf ok (u ∷ consIf (hasRight d u) (u + 1) (consIf (hasBelow d u) (u + d .width) []))
-      after1 = after0 ∙ rw (first-if ok (hasLeft d u) (u - 1) (u ∷ consIf (hasRight d u) (u + 1) (consIf (hasBelow d u) (u + d .width) [])), n1) refl
-
-      pub first-same : ok u ≡ true → u ≡ firstOf ok (near d u)
-      first-same e = rw (after1, e) refl
-
-      module _ (n2 : ok u ≡ false) where
-        after2 : firstOf ok (near d u) ≡ firstOf ok (consIf (hasRight d u) (u + 1) (consIf (hasBelow d u) (u + d .width) []))
-        after2 = after1 ∙ rw n2 refl
-
-        pub first-right : (hasRight d u && ok (u + 1)) ≡ true → u + 1 ≡ firstOf ok (near d u)
-        first-right e = rw (after2, first-if ok (hasRight d u) (u + 1) (consIf (hasBelow d u) (u + d .width) []), e) refl
-
-        module _ (n3 : (hasRight d u && ok (u + 1)) ≡ false) where
-          after3 : firstOf ok (near d u) ≡ firstOf ok (consIf (hasBelow d u) (u + d .width) [])
-          after3 = after2 ∙ rw (first-if ok (hasRight d u) (u + 1) (consIf (hasBelow d u) (u + d .width) []), n3) refl
-
-          pub first-below : (hasBelow d u && ok (u + d .width)) ≡ true → u + d .width ≡ firstOf ok (near d u)
-          first-below e = rw (after3, first-if ok (hasBelow d u) (u + d .width) [], e) refl
-
-          pub first-none : (hasBelow d u && ok (u + d .width)) ≡ false → 0 ≡ firstOf ok (near d u)
-          first-none e = rw (after3, first-if ok (hasBelow d u) (u + d .width) [], e) refl
-
--- the test by the kept layer is the test of the trace
-pub way-onward : (d : Sheet) (i : Carrier) (j : Task) (cs : List Constraint) → T (free d (lastGoal d j)) → (n t u k q m : ℕ) → T (free d u) → k ≤ length (goalsOf d j)
-    → (u ≡ q) ⊎ Beside d u q → m ≡ hind d i j cs n (suc t) q
+-- where a step is allowed, the test by the kept layer is the test of the trace
+pub way-onward : (d : Sheet) (i : Carrier) (j : Task) (cs : List Constraint) (n t u k q m : ℕ) → T (stepFree d u q) → m ≡ hind d i j cs n (suc t) q
     → (ltb (length (goalsOf d j)) (k + m) && freeMove i cs t u q) ≡ onward d i j cs n t u k q
 unfolding onward
-way-onward d i j cs end n t u k q m fu l near-by e =
-    rw (e, step-near d u q near-by, is-true (free d u) fu) (go (free d q) refl (ltb (length (goalsOf d j)) (k + hind d i j cs n (suc t) q)) refl (freeMove i cs t u q))
-  where
-    go : (f : Bool) → free d q ≡ f → (a : Bool) → ltb (length (goalsOf d j)) (k + hind d i j cs n (suc t) q) ≡ a → (b : Bool) → (a && b) ≡ ((f && b) && a)
-    go true x true y b = swap b
-      where
-        swap : (b : Bool) → b ≡ (b && true)
-        swap true = refl
-        swap false = refl
-    go true x false y b = swap b
-      where
-        swap : (b : Bool) → false ≡ (b && false)
-        swap true = refl
-        swap false = refl
-    go false x true y b =
-        let h = ltb-true (length (goalsOf d j)) (k + hind d i j cs n (suc t) q) y in
-        absurd (omega (arith, hind-blocked d i j cs end n (suc t) q (λ z. subst T x z)))
-    go false x false y b = refl
+way-onward d i j cs n t u k q m h e = rw (e, is-true (stepFree d u q) h) (and-turned (ltb (length (goalsOf d j)) (k + hind d i j cs n (suc t) q)) (freeMove i cs t u q))
+
+-- the trace goes to free places
+pub onward-free : (d : Sheet) (i : Carrier) (j : Task) (cs : List Constraint) (n t u k q : ℕ) → T (onward d i j cs n t u k q) → T (free d q)
+unfolding onward
+onward-free d i j cs n t u k q h =
+    free-meant d q .test (step-free-meant d u q .fact (and-left (stepFree d u q) (freeMove i cs t u q) (and-left (stepFree d u q && freeMove i cs t u q) _ h)) .1 .0)
+
+-- what the code finds by the way x
+module _ (mask rs work : List ℕ) (l : Look) (x : ℕ) where
+  pub spot-at : (r : ℕ) → r ≡ turnOf (l .w + 2) x → l .p + r - (l .w + 2) ≡ spotOf l x
+  spot-at r e = rw e refl
+
+  module _ {q : ℕ} (e : q ≡ spotOf l x) where
+    pub way-shut : getD mask q 0 ≡ 0 → false ≡ wayOn mask rs work l x
+    way-shut h = rw (eq-eqb (getD mask (spotOf l x) 0) 0 (subst (λ (y : ℕ). getD mask y 0 ≡ 0) e h)) refl
+
+    module _ (n : getD mask q 0 ≢ 0) {b : ℕ} (eb : b ≡ keptAt work (l .at) (q - (l .w + 2))) where
+      open-is : wayOn mask rs work l x ≡ (ltb (l .n) (l .k + b) && freeMove (l .i) (constraintsOf rs) (l .t) (l .u) (moveBy (l .w) (l .u) x))
+      open-is = rw (ne-eqb (getD mask (spotOf l x) 0) 0 (λ h. n (subst (λ (y : ℕ). getD mask y 0 ≡ 0) (sym e) h)), eb, e) refl
+
+      pub way-late : l .k + b ≤ l .n → false ≡ wayOn mask rs work l x
+      way-late h = rw (open-is, le-ltb (l .n) (l .k + b) h) refl
+
+      pub way-goes : l .n < l .k + b → (r : ℕ) → r ≡ turnOf (l .w) x → {a : Bool} → a ≡ freeMove (l .i) (constraintsOf rs) (l .t) (l .u) (l .u + r - l .w)
+          → a ≡ wayOn mask rs work l x
+      way-goes h r er ea = rw (open-is, lt-ltb (l .n) (l .k + b) h) (ea ∙ rw er refl)

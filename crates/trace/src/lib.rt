@@ -3,28 +3,26 @@
 use deck::Carrier;
 use deck::Task;
 ghost use mathlib.Core.Path.{_≡_};
-ghost use mathlib.Core.Bool.{_&&_};
-ghost use Prim.Native.Nat.{suc, _+_, _-_, _*_, _%_, _<_, _≤_};
+ghost use Prim.Native.Nat.{suc, _+_, _-_, _<_, _≤_};
 ghost use lib.ListN.{length};
-ghost use lib.Dec.{leb, ltb};
 ghost use Rattle.deck.specs.Sheet.{read};
 ghost use Rattle.deck.specs.Calls.{constraintsOf, overwrite};
 ghost use Rattle.kernel.specs.Layers.{firstOf};
 ghost use Rattle.kernel.specs.Near.{near};
 ghost use Rattle.kernel.specs.Kernel.{onward, pathAt, OnTime, LeastTime};
 ghost use Rattle.layers.specs.Fill.{Filled};
-ghost use Rattle.passes.specs.Ready.{Goals, Backed};
-ghost use Rattle.trace.specs.Along.{Posed, Visited, wayOn, Sees, Inside};
+ghost use Rattle.passes.specs.Ready.{Ready, Goals, Backed};
+ghost use Rattle.trace.specs.Along.{Visited, wayOn, FirstWay, Sees};
 
-// A look around the place u at time t, with the label k of n: the layer of t + 1 is kept from the word `at` on, and b is the byte of u
-// in it.
+// A look around the place u with the padded number p, at time t with the label k of n: the layer of t + 1 is kept from the word
+// `at` on.
 pub struct Look {
     pub i: Carrier,
     pub t: usize,
     pub u: usize,
+    pub p: usize,
     pub w: usize,
     pub at: usize,
-    pub b: usize,
     pub n: usize,
     pub k: usize,
 }
@@ -44,61 +42,42 @@ pub fn visit(goals: &[usize; 8], n: usize, k: usize, p: usize) -> usize
     m
 }
 
-// A step to q keeps the time and is not barred.
-fn way_on(records: &[u16], heads: &[u16; 256], work: &[u32], l: Look, q: usize, b: usize) -> bool
-    requires { ⌜ Sees (now records) (now heads) (now work) l × Inside (now work) l b ⌝ }
-    ensures { λ r. ⌜ r ≡ wayOn (now (records .entry)) (now (work .entry)) l q b ⌝ }
+// A step by the way x leads to a free place, keeps the time and is not barred.
+fn way_on(
+    mask: &[u8; 1156],
+    records: &[u16],
+    heads: &[u16; 256],
+    work: &[u32],
+    l: Look,
+    x: usize,
+) -> bool
+    requires { ⌜ Sees (now mask) (now records) (now heads) (now work) l × (x < 5) ⌝ }
+    ensures { λ r. ⌜ r ≡ wayOn (now (mask .entry)) (now (records .entry)) (now (work .entry)) l x ⌝ }
 {
+    let q = l.p + bars::turn(l.w + 2, x) - (l.w + 2);
+    if mask[q] == 0 {
+        return false;
+    }
     let at = l.at;
-    if l.n < l.k + layers::kept(work, at, b) {
-        bars::move_free(records, l.i, heads, work, l.t, l.u, q)
+    if l.n < l.k + layers::kept(work, at, q - (l.w + 2)) {
+        let v = l.u + bars::turn(l.w, x) - l.w;
+        bars::move_free(records, l.i, heads, work, l.t, l.u, v)
     } else {
         false
     }
 }
 
-fn above(records: &[u16], heads: &[u16; 256], work: &[u32], l: Look) -> bool
-    requires { ⌜ Sees (now records) (now heads) (now work) l × (l .w ≤ l .u → (l .w + 2 ≤ l .b) × Inside (now work) l (l .b - (l .w + 2))) ⌝ }
-    ensures { λ r. ⌜ r ≡ (leb (l .w) (l .u) && wayOn (now (records .entry)) (now (work .entry)) l (l .u - l .w) (l .b - (l .w + 2))) ⌝ }
+// The first way that leads on, and 5 for none.
+fn first_way(mask: &[u8; 1156], records: &[u16], heads: &[u16; 256], work: &[u32], l: Look) -> usize
+    requires { ⌜ Sees (now mask) (now records) (now heads) (now work) l ⌝ }
+    ensures { λ r. ⌜ FirstWay (wayOn (now (mask .entry)) (now (records .entry)) (now (work .entry)) l) r ⌝ }
 {
-    if l.w <= l.u {
-        way_on(records, heads, work, l, l.u - l.w, l.b - (l.w + 2))
-    } else {
-        false
+    for x in 0..5usize {
+        if way_on(mask, records, heads, work, l, x) {
+            return x;
+        }
     }
-}
-
-fn left(records: &[u16], heads: &[u16; 256], work: &[u32], l: Look) -> bool
-    requires { ⌜ Sees (now records) (now heads) (now work) l × (0 < l .u % l .w → (1 ≤ l .u) × (1 ≤ l .b) × Inside (now work) l (l .b - 1)) ⌝ }
-    ensures { λ r. ⌜ r ≡ (ltb 0 (l .u % l .w) && wayOn (now (records .entry)) (now (work .entry)) l (l .u - 1) (l .b - 1)) ⌝ }
-{
-    if 0 < l.u % l.w {
-        way_on(records, heads, work, l, l.u - 1, l.b - 1)
-    } else {
-        false
-    }
-}
-
-fn right(records: &[u16], heads: &[u16; 256], work: &[u32], l: Look) -> bool
-    requires { ⌜ Sees (now records) (now heads) (now work) l × (suc (l .u % l .w) < l .w → (l .b < 2000) × Inside (now work) l (l .b + 1)) ⌝ }
-    ensures { λ r. ⌜ r ≡ (ltb (suc (l .u % l .w)) (l .w) && wayOn (now (records .entry)) (now (work .entry)) l (l .u + 1) (l .b + 1)) ⌝ }
-{
-    if l.u % l.w + 1 < l.w {
-        way_on(records, heads, work, l, l.u + 1, l.b + 1)
-    } else {
-        false
-    }
-}
-
-fn below(records: &[u16], heads: &[u16; 256], work: &[u32], l: Look, area: usize) -> bool
-    requires { ⌜ Sees (now records) (now heads) (now work) l × (l .u + l .w < area → (l .b < 2000) × Inside (now work) l (l .b + (l .w + 2))) ⌝ }
-    ensures { λ r. ⌜ r ≡ (ltb (l .u + l .w) area && wayOn (now (records .entry)) (now (work .entry)) l (l .u + l .w) (l .b + (l .w + 2))) ⌝ }
-{
-    if l.u + l.w < area {
-        way_on(records, heads, work, l, l.u + l.w, l.b + (l.w + 2))
-    } else {
-        false
-    }
+    5
 }
 
 // The next place after u at t, with the label k: the least that keeps the time.
@@ -106,6 +85,7 @@ fn next_place(
     s: &[u8],
     i: Carrier,
     j: Task,
+    mask: &[u8; 1156],
     records: &[u16],
     heads: &[u16; 256],
     work: &[u32],
@@ -114,40 +94,26 @@ fn next_place(
     u: usize,
     k: usize,
 ) -> usize
-    requires { ⌜ Posed (now s) i j (now records) × Backed (now s) i j (now records) (now heads) end 0 (now work) × (t < end) × (end ≤ read (now s) .horizon) × OnTime (read (now s)) i j (constraintsOf (now records)) (end - t) t u k ⌝ }
+    requires { ⌜ Ready (now s) i j (now mask) (now records) × Backed (now s) i j (now records) (now heads) end 0 (now work) × (t < end) × (end ≤ read (now s) .horizon) × OnTime (read (now s)) i j (constraintsOf (now records)) (end - t) t u k ⌝ }
     ensures { λ r. ⌜ r ≡ firstOf (onward (read (now (s .entry))) i j (constraintsOf (now (records .entry))) (end - (t + 1)) t u k) (near (read (now (s .entry))) u) ⌝ }
 {
     let w = sheet::byte_at(s, 0);
     let h = sheet::byte_at(s, 1);
     let n = sheet::goal_count(s, j);
     let at = records.len() / 5 + (t + 1) * (((w + 2) * h + 3) / 4);
-    let b = bars::pad(w, u) - (w + 2);
+    let p = bars::pad(w, u);
     let l = Look {
         i: i,
         t: t,
         u: u,
+        p: p,
         w: w,
         at: at,
-        b: b,
         n: n,
         k: k,
     };
-    if above(records, heads, work, l) {
-        return u - w;
-    }
-    if left(records, heads, work, l) {
-        return u - 1;
-    }
-    if way_on(records, heads, work, l, u, b) {
-        return u;
-    }
-    if right(records, heads, work, l) {
-        return u + 1;
-    }
-    if below(records, heads, work, l, w * h) {
-        return u + w;
-    }
-    0
+    let x = first_way(mask, records, heads, work, l);
+    if x < 5 { u + bars::turn(w, x) - w } else { 0 }
 }
 
 pub fn narrow(v: usize) -> u16
@@ -172,6 +138,7 @@ pub fn trace(
     s: &[u8],
     i: Carrier,
     j: Task,
+    mask: &[u8; 1156],
     goals: &[usize; 8],
     records: &[u16],
     heads: &[u16; 256],
@@ -179,7 +146,7 @@ pub fn trace(
     end: usize,
     out: &mut [u16],
 )
-    requires { ⌜ Posed (now s) i j (now records) × Goals (now s) j (now goals) × Backed (now s) i j (now records) (now heads) end 0 (now work) × (end ≤ read (now s) .horizon) × LeastTime (read (now s)) i j (constraintsOf (now records)) end × (suc (read (now s) .horizon) ≤ length (now out)) ⌝ }
+    requires { ⌜ Ready (now s) i j (now mask) (now records) × Goals (now s) j (now goals) × Backed (now s) i j (now records) (now heads) end 0 (now work) × (end ≤ read (now s) .horizon) × LeastTime (read (now s)) i j (constraintsOf (now records)) end × (suc (read (now s) .horizon) ≤ length (now out)) ⌝ }
     ensures { λ _. ⌜ now (out .exit) ≡ overwrite (pathAt (read (now (s .entry))) i j (constraintsOf (now (records .entry))) (read (now (s .entry)) .horizon - end) end) (now (out .entry)) ⌝ }
 {
     let w = sheet::byte_at(s, 0);
@@ -190,7 +157,7 @@ pub fn trace(
     let mut k = visit(goals, n, 0, bars::pad(w, u));
     out[0] = narrow(u);
     for t in 0..end {
-        u = next_place(s, i, j, records, heads, work, end, t, u, k);
+        u = next_place(s, i, j, mask, records, heads, work, end, t, u, k);
         k = visit(goals, n, k, bars::pad(w, u));
         out[t + 1] = narrow(u);
     }

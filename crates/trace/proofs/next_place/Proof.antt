@@ -1,24 +1,41 @@
 -- `trace::next_place` meets its contract: the first of the five places around that keeps the time. Assumes nothing.
 use borrow.Author.Needs.{needs}
 use native.Mathlib.Omega.{arith}
-use mathlib.Core.Path.{sym, _∙_, ap, ap₂, subst}
-use Prim.Native.Nat.{ℕ, _+_, _-_, _*_, _/_, _%_}
-use lib.Dec.{T, leb, ltb, leb→le, ltb→lt}
+use mathlib.Core.Path.{_≡_, ap₂}
+use Prim.Native.Nat.{ℕ, _+_, _*_, _/_, _≤_}
 use Rattle.deck.specs.Sheet.{read}
-use Rattle.deck.specs.Calls.{constraintsOf}
-use Rattle.kernel.specs.Kernel.{onward}
-use Rattle.kernel.specs.Near.{hasAbove, hasLeft}
-use Rattle.kernel.proofs.Both.{and-left}
-use Rattle.passes.proofs.Backing.{code-rows, code-times}
-use Rattle.passes.proofs.Given.{wide-one, wide-most, few-records}
 use Rattle.sheet.proofs.Accepted.{area-range}
 use Rattle.meaning.proofs.Paths.{free-meant}
 use Rattle.bars.specs.Bars.{countIn}
-use Rattle.trace.proofs.Seeing.{seen-at}
-use Rattle.trace.proofs.Looking.{first-above, first-left, first-same, first-right, first-below, first-none}
-use native.Mathlib.Nat.{mod-le}
+use Rattle.passes.proofs.Backing.{code-rows, code-times}
+use Rattle.passes.proofs.Given.{wide-one, wide-most, few-records}
+use Rattle.trace.proofs.Seeing.{Seen, seen-at, way-enough, way-first, way-none}
 use Rattle.trace.proofs.next_place.Statement.{statement}
 use Rattle.trace.proofs.next_place.Tie as tie
+
+-- the width that is read
+wide : (c : tie.After-byte-at) → c .byte-at .result ≡ read (c .before .before .before .before .args .s .now) .width
+wide c = c .byte-at .ensures .0
+
+-- the words of the rows, and of the layers up to the next
+rows : (c : tie.After-goal-count) → (c .before .before .byte-at .result + 2) * c .before .byte-at2 .result ≤ 1088
+rows c =
+    let s = c .before .before .before .before .before .before in
+    code-rows (s .args .s .now) (s .args .i) (s .args .j) (s .args .mask .now) (s .args .records .now) (s .pre .0) _ _ (wide (c .before .before)) (c .before .byte-at2 .ensures .0)
+
+times : (c : tie.After-goal-count) → (c .before .before .before .before .before .before .args .t + 1) * (((c .before .before .byte-at .result + 2) * c .before .byte-at2 .result + 3) / 4) ≤ 69360
+times c =
+    let s = c .before .before .before .before .before .before in
+    code-times (s .args .s .now) (s .args .i) (s .args .j) (s .args .mask .now) (s .args .records .now) (s .pre .0) _ _ (wide (c .before .before)) (c .before .byte-at2 .ensures .0) (s .args .t + 1) (omega (arith, s .pre .2, s .pre .3))
+
+-- what is read around the place
+seen : (c : tie.After-pad) → Seen (c .before .before .before .before .before .before .before .args .s .now) (c .before .before .before .before .before .before .before .args .i) (c .before .before .before .before .before .before .before .args .j) (c .before .before .before .before .before .before .before .args .mask .now) (c .before .before .before .before .before .before .before .args .records .now) (c .before .before .before .before .before .before .before .pre .0) (c .before .before .before .before .before .before .before .args .heads .now) (c .before .before .before .before .before .before .before .args .work .now) (c .before .before .before .before .before .before .before .args .end) (c .before .before .before .before .before .before .before .args .t) (c .before .before .before .before .before .before .before .args .u) (c .before .before .before .before .before .before .before .args .k) (c .before .before .before .before .before .before .before .pre .1) (c .before .before .before .before .before .before .before .pre .2) (c .before .before .before .before .before .before .before .pre .3) (c .before .before .before .before .before .before .before .pre .4) (c .before .before .before .byte-at .result)
+    (countIn (c .before .before .before .before .before .before .before .args .records .now) + (c .before .before .before .before .before .before .before .args .t + 1) * (((c .before .before .before .byte-at .result + 2) * c .before .before .byte-at2 .result + 3) / 4)) (c .pad .result) (c .before .goal-count .result)
+seen c =
+    let s = c .before .before .before .before .before .before .before in
+    seen-at (s .args .s .now) (s .args .i) (s .args .j) (s .args .mask .now) (s .args .records .now) (s .pre .0) (s .args .heads .now) (s .args .work .now) (s .args .end) (s .args .t) (s .args .u) (s .args .k) (s .pre .1) (s .pre .2) (s .pre .3) (s .pre .4) (wide (c .before .before .before))
+    (ap₂ (λ (w h : ℕ). countIn (s .args .records .now) + (s .args .t + 1) * (((w + 2) * h + 3) / 4)) (wide (c .before .before .before)) (c .before .before .byte-at2 .ensures .0))
+    (c .pad .ensures) (c .before .goal-count .ensures .0)
 
 byte-at-requires : tie.Need-byte-at-requires
 byte-at-requires c κs = search needs
@@ -36,73 +53,47 @@ add-at-2 : tie.Need-add-at-2
 add-at-2 c = search needs
 
 mul-at : tie.Need-mul-at
-mul-at c = omega (arith, code-rows (c .before .before .before .before .before .before .args .s .now) (c .before .before .before .before .before .before .args .i) (c .before .before .before .before .before .before .args .j) (c .before .before .before .before .before .before .pre .0 .0) (c .before .before .before .before .before .before .args .records .now) (c .before .before .before .before .before .before .pre .0 .1) _ _ (c .before .before .byte-at .ensures .0) (c .before .byte-at2 .ensures .0))
+mul-at c = omega (arith, rows c)
 
 add-at-3 : tie.Need-add-at-3
-add-at-3 c = omega (arith, code-rows (c .before .before .before .before .before .before .args .s .now) (c .before .before .before .before .before .before .args .i) (c .before .before .before .before .before .before .args .j) (c .before .before .before .before .before .before .pre .0 .0) (c .before .before .before .before .before .before .args .records .now) (c .before .before .before .before .before .before .pre .0 .1) _ _ (c .before .before .byte-at .ensures .0) (c .before .byte-at2 .ensures .0))
+add-at-3 c = omega (arith, rows c)
 
 mul-at-2 : tie.Need-mul-at-2
-mul-at-2 c = omega (arith, code-times (c .before .before .before .before .before .before .args .s .now) (c .before .before .before .before .before .before .args .i) (c .before .before .before .before .before .before .args .j) (c .before .before .before .before .before .before .pre .0 .0) (c .before .before .before .before .before .before .args .records .now) (c .before .before .before .before .before .before .pre .0 .1) _ _ (c .before .before .byte-at .ensures .0) (c .before .byte-at2 .ensures .0) (c .before .before .before .before .before .before .args .t + 1) (omega arith))
+mul-at-2 c = omega (arith, times c)
 
 add-at-4 : tie.Need-add-at-4
-add-at-4 c = omega (arith, code-times (c .before .before .before .before .before .before .args .s .now) (c .before .before .before .before .before .before .args .i) (c .before .before .before .before .before .before .args .j) (c .before .before .before .before .before .before .pre .0 .0) (c .before .before .before .before .before .before .args .records .now) (c .before .before .before .before .before .before .pre .0 .1) _ _ (c .before .before .byte-at .ensures .0) (c .before .byte-at2 .ensures .0) (c .before .before .before .before .before .before .args .t + 1) (omega arith), few-records (c .before .before .before .before .before .before .pre .0 .1))
+add-at-4 c = omega (arith, times c, few-records (c .before .before .before .before .before .before .pre .0))
 
 pad-requires : tie.Need-pad-requires
-pad-requires c κs = (omega (arith, (c .before .before .byte-at .ensures .0), wide-one (c .before .before .before .before .before .before .pre .0 .1)), omega (arith, (c .before .before .byte-at .ensures .0), wide-most (c .before .before .before .before .before .before .pre .0 .1)), omega (arith, free-meant (read (c .before .before .before .before .before .before .args .s .now)) (c .before .before .before .before .before .before .args .u) .fact (c .before .before .before .before .before .before .pre .4 .on-free) .on-grid, area-range (c .before .before .before .before .before .before .args .s .now) (c .before .before .before .before .before .before .pre .0 .1 .accepted) .1))
+pad-requires c κs =
+    let s = c .before .before .before .before .before .before in
+    let w = wide (c .before .before) in
+    let on = free-meant (read (s .args .s .now)) (s .args .u) .fact (s .pre .4 .on-free) .on-grid in
+    (omega (arith, w, wide-one (s .pre .0)), omega (arith, w, wide-most (s .pre .0)), omega (arith, on, area-range (s .args .s .now) (s .pre .0 .accepted) .1))
 
-add-b : tie.Need-add-b
-add-b c = search needs
+first-way-requires : tie.Need-first-way-requires
+first-way-requires c κs = seen c .sees
 
-sub-b : tie.Need-sub-b
-sub-b c = omega (arith, c .pad .ensures)
-
-above-requires : tie.Need-above-requires
-above-requires c κs = let q = seen-at (c .before .before .before .before .before .before .before .args .s .now) (c .before .before .before .before .before .before .before .args .i) (c .before .before .before .before .before .before .before .args .j) (c .before .before .before .before .before .before .before .pre .0 .0) (c .before .before .before .before .before .before .before .args .records .now) (c .before .before .before .before .before .before .before .pre .0 .1) (c .before .before .before .before .before .before .before .args .heads .now) (c .before .before .before .before .before .before .before .args .work .now) (c .before .before .before .before .before .before .before .args .end) (c .before .before .before .before .before .before .before .args .t) (c .before .before .before .before .before .before .before .args .u) (c .before .before .before .before .before .before .before .args .k) (c .before .before .before .before .before .before .before .pre .1) (c .before .before .before .before .before .before .before .pre .2) (c .before .before .before .before .before .before .before .pre .3) (c .before .before .before .before .before .before .before .pre .4) (c .before .before .before .byte-at .ensures .0) (ap₂ (λ (w h : ℕ). countIn (c .before .before .before .before .before .before .before .args .records .now) + (c .before .before .before .before .before .before .before .args .t + 1) * (((w + 2) * h + 3) / 4)) (c .before .before .before .byte-at .ensures .0) (c .before .before .byte-at2 .ensures .0)) (ap (λ (x : ℕ). x - (c .before .before .before .byte-at .result + 2)) (c .pad .ensures)) (c .before .goal-count .ensures .0) (ap₂ (λ (w h : ℕ). w * h) (c .before .before .before .byte-at .ensures .0) (c .before .before .byte-at2 .ensures .0)) in (q .sees, q .in-above)
-
-sub-result : tie.Need-sub-result
-sub-result c = let q = seen-at (c .before .before .before .before .before .before .before .before .before .args .s .now) (c .before .before .before .before .before .before .before .before .before .args .i) (c .before .before .before .before .before .before .before .before .before .args .j) (c .before .before .before .before .before .before .before .before .before .pre .0 .0) (c .before .before .before .before .before .before .before .before .before .args .records .now) (c .before .before .before .before .before .before .before .before .before .pre .0 .1) (c .before .before .before .before .before .before .before .before .before .args .heads .now) (c .before .before .before .before .before .before .before .before .before .args .work .now) (c .before .before .before .before .before .before .before .before .before .args .end) (c .before .before .before .before .before .before .before .before .before .args .t) (c .before .before .before .before .before .before .before .before .before .args .u) (c .before .before .before .before .before .before .before .before .before .args .k) (c .before .before .before .before .before .before .before .before .before .pre .1) (c .before .before .before .before .before .before .before .before .before .pre .2) (c .before .before .before .before .before .before .before .before .before .pre .3) (c .before .before .before .before .before .before .before .before .before .pre .4) (c .before .before .before .before .before .byte-at .ensures .0) (ap₂ (λ (w h : ℕ). countIn (c .before .before .before .before .before .before .before .before .before .args .records .now) + (c .before .before .before .before .before .before .before .before .before .args .t + 1) * (((w + 2) * h + 3) / 4)) (c .before .before .before .before .before .byte-at .ensures .0) (c .before .before .before .before .byte-at2 .ensures .0)) (ap (λ (x : ℕ). x - (c .before .before .before .before .before .byte-at .result + 2)) (c .before .before .pad .ensures)) (c .before .before .before .goal-count .ensures .0) (ap₂ (λ (w h : ℕ). w * h) (c .before .before .before .before .before .byte-at .ensures .0) (c .before .before .before .before .byte-at2 .ensures .0)) in let e = leb→le (read (c .before .before .before .before .before .before .before .before .before .args .s .now) .width) (c .before .before .before .before .before .before .before .before .before .args .u) (and-left (hasAbove (read (c .before .before .before .before .before .before .before .before .before .args .s .now)) (c .before .before .before .before .before .before .before .before .before .args .u)) ((onward (read (c .before .before .before .before .before .before .before .before .before .args .s .now)) (c .before .before .before .before .before .before .before .before .before .args .i) (c .before .before .before .before .before .before .before .before .before .args .j) (constraintsOf (c .before .before .before .before .before .before .before .before .before .args .records .now)) (c .before .before .before .before .before .before .before .before .before .args .end - (c .before .before .before .before .before .before .before .before .before .args .t + 1)) (c .before .before .before .before .before .before .before .before .before .args .t) (c .before .before .before .before .before .before .before .before .before .args .u) (c .before .before .before .before .before .before .before .before .before .args .k)) (c .before .before .before .before .before .before .before .before .before .args .u - read (c .before .before .before .before .before .before .before .before .before .args .s .now) .width)) (subst T (sym (sym (q .above) ∙ sym (c .before .above .ensures) ∙ c .if1 .taken)) tt)) in omega (arith, (c .before .before .before .before .before .byte-at .ensures .0))
-
-returns : tie.Need-returns
-returns c = let q = seen-at (c .before .before .before .before .before .before .before .before .before .args .s .now) (c .before .before .before .before .before .before .before .before .before .args .i) (c .before .before .before .before .before .before .before .before .before .args .j) (c .before .before .before .before .before .before .before .before .before .pre .0 .0) (c .before .before .before .before .before .before .before .before .before .args .records .now) (c .before .before .before .before .before .before .before .before .before .pre .0 .1) (c .before .before .before .before .before .before .before .before .before .args .heads .now) (c .before .before .before .before .before .before .before .before .before .args .work .now) (c .before .before .before .before .before .before .before .before .before .args .end) (c .before .before .before .before .before .before .before .before .before .args .t) (c .before .before .before .before .before .before .before .before .before .args .u) (c .before .before .before .before .before .before .before .before .before .args .k) (c .before .before .before .before .before .before .before .before .before .pre .1) (c .before .before .before .before .before .before .before .before .before .pre .2) (c .before .before .before .before .before .before .before .before .before .pre .3) (c .before .before .before .before .before .before .before .before .before .pre .4) (c .before .before .before .before .before .byte-at .ensures .0) (ap₂ (λ (w h : ℕ). countIn (c .before .before .before .before .before .before .before .before .before .args .records .now) + (c .before .before .before .before .before .before .before .before .before .args .t + 1) * (((w + 2) * h + 3) / 4)) (c .before .before .before .before .before .byte-at .ensures .0) (c .before .before .before .before .byte-at2 .ensures .0)) (ap (λ (x : ℕ). x - (c .before .before .before .before .before .byte-at .result + 2)) (c .before .before .pad .ensures)) (c .before .before .before .goal-count .ensures .0) (ap₂ (λ (w h : ℕ). w * h) (c .before .before .before .before .before .byte-at .ensures .0) (c .before .before .before .before .byte-at2 .ensures .0)) in ap (λ (x : ℕ). c .before .before .before .before .before .before .before .before .before .args .u - x) (c .before .before .before .before .before .byte-at .ensures .0) ∙ first-above (read (c .before .before .before .before .before .before .before .before .before .args .s .now)) (onward (read (c .before .before .before .before .before .before .before .before .before .args .s .now)) (c .before .before .before .before .before .before .before .before .before .args .i) (c .before .before .before .before .before .before .before .before .before .args .j) (constraintsOf (c .before .before .before .before .before .before .before .before .before .args .records .now)) (c .before .before .before .before .before .before .before .before .before .args .end - (c .before .before .before .before .before .before .before .before .before .args .t + 1)) (c .before .before .before .before .before .before .before .before .before .args .t) (c .before .before .before .before .before .before .before .before .before .args .u) (c .before .before .before .before .before .before .before .before .before .args .k)) (c .before .before .before .before .before .before .before .before .before .args .u) (sym (q .above) ∙ sym (c .before .above .ensures) ∙ c .if1 .taken)
-
-left-requires : tie.Need-left-requires
-left-requires c κs = let q = seen-at (c .before .before .before .before .before .before .before .before .before .args .s .now) (c .before .before .before .before .before .before .before .before .before .args .i) (c .before .before .before .before .before .before .before .before .before .args .j) (c .before .before .before .before .before .before .before .before .before .pre .0 .0) (c .before .before .before .before .before .before .before .before .before .args .records .now) (c .before .before .before .before .before .before .before .before .before .pre .0 .1) (c .before .before .before .before .before .before .before .before .before .args .heads .now) (c .before .before .before .before .before .before .before .before .before .args .work .now) (c .before .before .before .before .before .before .before .before .before .args .end) (c .before .before .before .before .before .before .before .before .before .args .t) (c .before .before .before .before .before .before .before .before .before .args .u) (c .before .before .before .before .before .before .before .before .before .args .k) (c .before .before .before .before .before .before .before .before .before .pre .1) (c .before .before .before .before .before .before .before .before .before .pre .2) (c .before .before .before .before .before .before .before .before .before .pre .3) (c .before .before .before .before .before .before .before .before .before .pre .4) (c .before .before .before .before .before .byte-at .ensures .0) (ap₂ (λ (w h : ℕ). countIn (c .before .before .before .before .before .before .before .before .before .args .records .now) + (c .before .before .before .before .before .before .before .before .before .args .t + 1) * (((w + 2) * h + 3) / 4)) (c .before .before .before .before .before .byte-at .ensures .0) (c .before .before .before .before .byte-at2 .ensures .0)) (ap (λ (x : ℕ). x - (c .before .before .before .before .before .byte-at .result + 2)) (c .before .before .pad .ensures)) (c .before .before .before .goal-count .ensures .0) (ap₂ (λ (w h : ℕ). w * h) (c .before .before .before .before .before .byte-at .ensures .0) (c .before .before .before .before .byte-at2 .ensures .0)) in (q .sees, q .in-left)
-
-sub-result-2 : tie.Need-sub-result-2
-sub-result-2 c = let q = seen-at (c .before .before .before .before .before .before .before .before .before .before .before .args .s .now) (c .before .before .before .before .before .before .before .before .before .before .before .args .i) (c .before .before .before .before .before .before .before .before .before .before .before .args .j) (c .before .before .before .before .before .before .before .before .before .before .before .pre .0 .0) (c .before .before .before .before .before .before .before .before .before .before .before .args .records .now) (c .before .before .before .before .before .before .before .before .before .before .before .pre .0 .1) (c .before .before .before .before .before .before .before .before .before .before .before .args .heads .now) (c .before .before .before .before .before .before .before .before .before .before .before .args .work .now) (c .before .before .before .before .before .before .before .before .before .before .before .args .end) (c .before .before .before .before .before .before .before .before .before .before .before .args .t) (c .before .before .before .before .before .before .before .before .before .before .before .args .u) (c .before .before .before .before .before .before .before .before .before .before .before .args .k) (c .before .before .before .before .before .before .before .before .before .before .before .pre .1) (c .before .before .before .before .before .before .before .before .before .before .before .pre .2) (c .before .before .before .before .before .before .before .before .before .before .before .pre .3) (c .before .before .before .before .before .before .before .before .before .before .before .pre .4) (c .before .before .before .before .before .before .before .byte-at .ensures .0) (ap₂ (λ (w h : ℕ). countIn (c .before .before .before .before .before .before .before .before .before .before .before .args .records .now) + (c .before .before .before .before .before .before .before .before .before .before .before .args .t + 1) * (((w + 2) * h + 3) / 4)) (c .before .before .before .before .before .before .before .byte-at .ensures .0) (c .before .before .before .before .before .before .byte-at2 .ensures .0)) (ap (λ (x : ℕ). x - (c .before .before .before .before .before .before .before .byte-at .result + 2)) (c .before .before .before .before .pad .ensures)) (c .before .before .before .before .before .goal-count .ensures .0) (ap₂ (λ (w h : ℕ). w * h) (c .before .before .before .before .before .before .before .byte-at .ensures .0) (c .before .before .before .before .before .before .byte-at2 .ensures .0)) in let e = ltb→lt 0 (c .before .before .before .before .before .before .before .before .before .before .before .args .u % read (c .before .before .before .before .before .before .before .before .before .before .before .args .s .now) .width) (and-left (hasLeft (read (c .before .before .before .before .before .before .before .before .before .before .before .args .s .now)) (c .before .before .before .before .before .before .before .before .before .before .before .args .u)) ((onward (read (c .before .before .before .before .before .before .before .before .before .before .before .args .s .now)) (c .before .before .before .before .before .before .before .before .before .before .before .args .i) (c .before .before .before .before .before .before .before .before .before .before .before .args .j) (constraintsOf (c .before .before .before .before .before .before .before .before .before .before .before .args .records .now)) (c .before .before .before .before .before .before .before .before .before .before .before .args .end - (c .before .before .before .before .before .before .before .before .before .before .before .args .t + 1)) (c .before .before .before .before .before .before .before .before .before .before .before .args .t) (c .before .before .before .before .before .before .before .before .before .before .before .args .u) (c .before .before .before .before .before .before .before .before .before .before .before .args .k)) (c .before .before .before .before .before .before .before .before .before .before .before .args .u - 1)) (subst T (sym (sym (q .left) ∙ sym (c .before .left .ensures) ∙ c .if2 .taken)) tt)) in omega (arith, mod-le (c .before .before .before .before .before .before .before .before .before .before .before .args .u) (read (c .before .before .before .before .before .before .before .before .before .before .before .args .s .now) .width))
-
-returns-2 : tie.Need-returns-2
-returns-2 c = let q = seen-at (c .before .before .before .before .before .before .before .before .before .before .before .args .s .now) (c .before .before .before .before .before .before .before .before .before .before .before .args .i) (c .before .before .before .before .before .before .before .before .before .before .before .args .j) (c .before .before .before .before .before .before .before .before .before .before .before .pre .0 .0) (c .before .before .before .before .before .before .before .before .before .before .before .args .records .now) (c .before .before .before .before .before .before .before .before .before .before .before .pre .0 .1) (c .before .before .before .before .before .before .before .before .before .before .before .args .heads .now) (c .before .before .before .before .before .before .before .before .before .before .before .args .work .now) (c .before .before .before .before .before .before .before .before .before .before .before .args .end) (c .before .before .before .before .before .before .before .before .before .before .before .args .t) (c .before .before .before .before .before .before .before .before .before .before .before .args .u) (c .before .before .before .before .before .before .before .before .before .before .before .args .k) (c .before .before .before .before .before .before .before .before .before .before .before .pre .1) (c .before .before .before .before .before .before .before .before .before .before .before .pre .2) (c .before .before .before .before .before .before .before .before .before .before .before .pre .3) (c .before .before .before .before .before .before .before .before .before .before .before .pre .4) (c .before .before .before .before .before .before .before .byte-at .ensures .0) (ap₂ (λ (w h : ℕ). countIn (c .before .before .before .before .before .before .before .before .before .before .before .args .records .now) + (c .before .before .before .before .before .before .before .before .before .before .before .args .t + 1) * (((w + 2) * h + 3) / 4)) (c .before .before .before .before .before .before .before .byte-at .ensures .0) (c .before .before .before .before .before .before .byte-at2 .ensures .0)) (ap (λ (x : ℕ). x - (c .before .before .before .before .before .before .before .byte-at .result + 2)) (c .before .before .before .before .pad .ensures)) (c .before .before .before .before .before .goal-count .ensures .0) (ap₂ (λ (w h : ℕ). w * h) (c .before .before .before .before .before .before .before .byte-at .ensures .0) (c .before .before .before .before .before .before .byte-at2 .ensures .0)) in first-left (read (c .before .before .before .before .before .before .before .before .before .before .before .args .s .now)) (onward (read (c .before .before .before .before .before .before .before .before .before .before .before .args .s .now)) (c .before .before .before .before .before .before .before .before .before .before .before .args .i) (c .before .before .before .before .before .before .before .before .before .before .before .args .j) (constraintsOf (c .before .before .before .before .before .before .before .before .before .before .before .args .records .now)) (c .before .before .before .before .before .before .before .before .before .before .before .args .end - (c .before .before .before .before .before .before .before .before .before .before .before .args .t + 1)) (c .before .before .before .before .before .before .before .before .before .before .before .args .t) (c .before .before .before .before .before .before .before .before .before .before .before .args .u) (c .before .before .before .before .before .before .before .before .before .before .before .args .k)) (c .before .before .before .before .before .before .before .before .before .before .before .args .u) (sym (q .above) ∙ sym (c .before .before .before .above .ensures) ∙ c .before .before .if1 .left) (sym (q .left) ∙ sym (c .before .left .ensures) ∙ c .if2 .taken)
-
-way-on-requires : tie.Need-way-on-requires
-way-on-requires c κs = let q = seen-at (c .before .before .before .before .before .before .before .before .before .before .before .args .s .now) (c .before .before .before .before .before .before .before .before .before .before .before .args .i) (c .before .before .before .before .before .before .before .before .before .before .before .args .j) (c .before .before .before .before .before .before .before .before .before .before .before .pre .0 .0) (c .before .before .before .before .before .before .before .before .before .before .before .args .records .now) (c .before .before .before .before .before .before .before .before .before .before .before .pre .0 .1) (c .before .before .before .before .before .before .before .before .before .before .before .args .heads .now) (c .before .before .before .before .before .before .before .before .before .before .before .args .work .now) (c .before .before .before .before .before .before .before .before .before .before .before .args .end) (c .before .before .before .before .before .before .before .before .before .before .before .args .t) (c .before .before .before .before .before .before .before .before .before .before .before .args .u) (c .before .before .before .before .before .before .before .before .before .before .before .args .k) (c .before .before .before .before .before .before .before .before .before .before .before .pre .1) (c .before .before .before .before .before .before .before .before .before .before .before .pre .2) (c .before .before .before .before .before .before .before .before .before .before .before .pre .3) (c .before .before .before .before .before .before .before .before .before .before .before .pre .4) (c .before .before .before .before .before .before .before .byte-at .ensures .0) (ap₂ (λ (w h : ℕ). countIn (c .before .before .before .before .before .before .before .before .before .before .before .args .records .now) + (c .before .before .before .before .before .before .before .before .before .before .before .args .t + 1) * (((w + 2) * h + 3) / 4)) (c .before .before .before .before .before .before .before .byte-at .ensures .0) (c .before .before .before .before .before .before .byte-at2 .ensures .0)) (ap (λ (x : ℕ). x - (c .before .before .before .before .before .before .before .byte-at .result + 2)) (c .before .before .before .before .pad .ensures)) (c .before .before .before .before .before .goal-count .ensures .0) (ap₂ (λ (w h : ℕ). w * h) (c .before .before .before .before .before .before .before .byte-at .ensures .0) (c .before .before .before .before .before .before .byte-at2 .ensures .0)) in (q .sees, q .in-same)
-
-returns-3 : tie.Need-returns-3
-returns-3 c = let q = seen-at (c .before .before .before .before .before .before .before .before .before .before .before .before .before .args .s .now) (c .before .before .before .before .before .before .before .before .before .before .before .before .before .args .i) (c .before .before .before .before .before .before .before .before .before .before .before .before .before .args .j) (c .before .before .before .before .before .before .before .before .before .before .before .before .before .pre .0 .0) (c .before .before .before .before .before .before .before .before .before .before .before .before .before .args .records .now) (c .before .before .before .before .before .before .before .before .before .before .before .before .before .pre .0 .1) (c .before .before .before .before .before .before .before .before .before .before .before .before .before .args .heads .now) (c .before .before .before .before .before .before .before .before .before .before .before .before .before .args .work .now) (c .before .before .before .before .before .before .before .before .before .before .before .before .before .args .end) (c .before .before .before .before .before .before .before .before .before .before .before .before .before .args .t) (c .before .before .before .before .before .before .before .before .before .before .before .before .before .args .u) (c .before .before .before .before .before .before .before .before .before .before .before .before .before .args .k) (c .before .before .before .before .before .before .before .before .before .before .before .before .before .pre .1) (c .before .before .before .before .before .before .before .before .before .before .before .before .before .pre .2) (c .before .before .before .before .before .before .before .before .before .before .before .before .before .pre .3) (c .before .before .before .before .before .before .before .before .before .before .before .before .before .pre .4) (c .before .before .before .before .before .before .before .before .before .byte-at .ensures .0) (ap₂ (λ (w h : ℕ). countIn (c .before .before .before .before .before .before .before .before .before .before .before .before .before .args .records .now) + (c .before .before .before .before .before .before .before .before .before .before .before .before .before .args .t + 1) * (((w + 2) * h + 3) / 4)) (c .before .before .before .before .before .before .before .before .before .byte-at .ensures .0) (c .before .before .before .before .before .before .before .before .byte-at2 .ensures .0)) (ap (λ (x : ℕ). x - (c .before .before .before .before .before .before .before .before .before .byte-at .result + 2)) (c .before .before .before .before .before .before .pad .ensures)) (c .before .before .before .before .before .before .before .goal-count .ensures .0) (ap₂ (λ (w h : ℕ). w * h) (c .before .before .before .before .before .before .before .before .before .byte-at .ensures .0) (c .before .before .before .before .before .before .before .before .byte-at2 .ensures .0)) in first-same (read (c .before .before .before .before .before .before .before .before .before .before .before .before .before .args .s .now)) (onward (read (c .before .before .before .before .before .before .before .before .before .before .before .before .before .args .s .now)) (c .before .before .before .before .before .before .before .before .before .before .before .before .before .args .i) (c .before .before .before .before .before .before .before .before .before .before .before .before .before .args .j) (constraintsOf (c .before .before .before .before .before .before .before .before .before .before .before .before .before .args .records .now)) (c .before .before .before .before .before .before .before .before .before .before .before .before .before .args .end - (c .before .before .before .before .before .before .before .before .before .before .before .before .before .args .t + 1)) (c .before .before .before .before .before .before .before .before .before .before .before .before .before .args .t) (c .before .before .before .before .before .before .before .before .before .before .before .before .before .args .u) (c .before .before .before .before .before .before .before .before .before .before .before .before .before .args .k)) (c .before .before .before .before .before .before .before .before .before .before .before .before .before .args .u) (sym (q .above) ∙ sym (c .before .before .before .before .before .above .ensures) ∙ c .before .before .before .before .if1 .left) (sym (q .left) ∙ sym (c .before .before .before .left .ensures) ∙ c .before .before .if2 .left) (sym (q .same) ∙ sym (c .before .way-on .ensures) ∙ c .if3 .taken)
-
-right-requires : tie.Need-right-requires
-right-requires c κs = let q = seen-at (c .before .before .before .before .before .before .before .before .before .before .before .before .before .args .s .now) (c .before .before .before .before .before .before .before .before .before .before .before .before .before .args .i) (c .before .before .before .before .before .before .before .before .before .before .before .before .before .args .j) (c .before .before .before .before .before .before .before .before .before .before .before .before .before .pre .0 .0) (c .before .before .before .before .before .before .before .before .before .before .before .before .before .args .records .now) (c .before .before .before .before .before .before .before .before .before .before .before .before .before .pre .0 .1) (c .before .before .before .before .before .before .before .before .before .before .before .before .before .args .heads .now) (c .before .before .before .before .before .before .before .before .before .before .before .before .before .args .work .now) (c .before .before .before .before .before .before .before .before .before .before .before .before .before .args .end) (c .before .before .before .before .before .before .before .before .before .before .before .before .before .args .t) (c .before .before .before .before .before .before .before .before .before .before .before .before .before .args .u) (c .before .before .before .before .before .before .before .before .before .before .before .before .before .args .k) (c .before .before .before .before .before .before .before .before .before .before .before .before .before .pre .1) (c .before .before .before .before .before .before .before .before .before .before .before .before .before .pre .2) (c .before .before .before .before .before .before .before .before .before .before .before .before .before .pre .3) (c .before .before .before .before .before .before .before .before .before .before .before .before .before .pre .4) (c .before .before .before .before .before .before .before .before .before .byte-at .ensures .0) (ap₂ (λ (w h : ℕ). countIn (c .before .before .before .before .before .before .before .before .before .before .before .before .before .args .records .now) + (c .before .before .before .before .before .before .before .before .before .before .before .before .before .args .t + 1) * (((w + 2) * h + 3) / 4)) (c .before .before .before .before .before .before .before .before .before .byte-at .ensures .0) (c .before .before .before .before .before .before .before .before .byte-at2 .ensures .0)) (ap (λ (x : ℕ). x - (c .before .before .before .before .before .before .before .before .before .byte-at .result + 2)) (c .before .before .before .before .before .before .pad .ensures)) (c .before .before .before .before .before .before .before .goal-count .ensures .0) (ap₂ (λ (w h : ℕ). w * h) (c .before .before .before .before .before .before .before .before .before .byte-at .ensures .0) (c .before .before .before .before .before .before .before .before .byte-at2 .ensures .0)) in (q .sees, q .in-right)
+turn-requires : tie.Need-turn-requires
+turn-requires c κs = let q = seen (c .before .before) .sees in (q .width, omega (arith, q .narrow), c .if1 .taken)
 
 add-result : tie.Need-add-result
-add-result c = omega (arith, free-meant (read (c .before .before .before .before .before .before .before .before .before .before .before .before .before .before .before .args .s .now)) (c .before .before .before .before .before .before .before .before .before .before .before .before .before .before .before .args .u) .fact (c .before .before .before .before .before .before .before .before .before .before .before .before .before .before .before .pre .4 .on-free) .on-grid, area-range (c .before .before .before .before .before .before .before .before .before .before .before .before .before .before .before .args .s .now) (c .before .before .before .before .before .before .before .before .before .before .before .before .before .before .before .pre .0 .1 .accepted) .1)
+add-result c = omega (arith, seen (c .before .before .before) .sees .place, c .turn .ensures .1)
 
-returns-4 : tie.Need-returns-4
-returns-4 c = let q = seen-at (c .before .before .before .before .before .before .before .before .before .before .before .before .before .before .before .args .s .now) (c .before .before .before .before .before .before .before .before .before .before .before .before .before .before .before .args .i) (c .before .before .before .before .before .before .before .before .before .before .before .before .before .before .before .args .j) (c .before .before .before .before .before .before .before .before .before .before .before .before .before .before .before .pre .0 .0) (c .before .before .before .before .before .before .before .before .before .before .before .before .before .before .before .args .records .now) (c .before .before .before .before .before .before .before .before .before .before .before .before .before .before .before .pre .0 .1) (c .before .before .before .before .before .before .before .before .before .before .before .before .before .before .before .args .heads .now) (c .before .before .before .before .before .before .before .before .before .before .before .before .before .before .before .args .work .now) (c .before .before .before .before .before .before .before .before .before .before .before .before .before .before .before .args .end) (c .before .before .before .before .before .before .before .before .before .before .before .before .before .before .before .args .t) (c .before .before .before .before .before .before .before .before .before .before .before .before .before .before .before .args .u) (c .before .before .before .before .before .before .before .before .before .before .before .before .before .before .before .args .k) (c .before .before .before .before .before .before .before .before .before .before .before .before .before .before .before .pre .1) (c .before .before .before .before .before .before .before .before .before .before .before .before .before .before .before .pre .2) (c .before .before .before .before .before .before .before .before .before .before .before .before .before .before .before .pre .3) (c .before .before .before .before .before .before .before .before .before .before .before .before .before .before .before .pre .4) (c .before .before .before .before .before .before .before .before .before .before .before .byte-at .ensures .0) (ap₂ (λ (w h : ℕ). countIn (c .before .before .before .before .before .before .before .before .before .before .before .before .before .before .before .args .records .now) + (c .before .before .before .before .before .before .before .before .before .before .before .before .before .before .before .args .t + 1) * (((w + 2) * h + 3) / 4)) (c .before .before .before .before .before .before .before .before .before .before .before .byte-at .ensures .0) (c .before .before .before .before .before .before .before .before .before .before .byte-at2 .ensures .0)) (ap (λ (x : ℕ). x - (c .before .before .before .before .before .before .before .before .before .before .before .byte-at .result + 2)) (c .before .before .before .before .before .before .before .before .pad .ensures)) (c .before .before .before .before .before .before .before .before .before .goal-count .ensures .0) (ap₂ (λ (w h : ℕ). w * h) (c .before .before .before .before .before .before .before .before .before .before .before .byte-at .ensures .0) (c .before .before .before .before .before .before .before .before .before .before .byte-at2 .ensures .0)) in first-right (read (c .before .before .before .before .before .before .before .before .before .before .before .before .before .before .before .args .s .now)) (onward (read (c .before .before .before .before .before .before .before .before .before .before .before .before .before .before .before .args .s .now)) (c .before .before .before .before .before .before .before .before .before .before .before .before .before .before .before .args .i) (c .before .before .before .before .before .before .before .before .before .before .before .before .before .before .before .args .j) (constraintsOf (c .before .before .before .before .before .before .before .before .before .before .before .before .before .before .before .args .records .now)) (c .before .before .before .before .before .before .before .before .before .before .before .before .before .before .before .args .end - (c .before .before .before .before .before .before .before .before .before .before .before .before .before .before .before .args .t + 1)) (c .before .before .before .before .before .before .before .before .before .before .before .before .before .before .before .args .t) (c .before .before .before .before .before .before .before .before .before .before .before .before .before .before .before .args .u) (c .before .before .before .before .before .before .before .before .before .before .before .before .before .before .before .args .k)) (c .before .before .before .before .before .before .before .before .before .before .before .before .before .before .before .args .u) (sym (q .above) ∙ sym (c .before .before .before .before .before .before .before .above .ensures) ∙ c .before .before .before .before .before .before .if1 .left) (sym (q .left) ∙ sym (c .before .before .before .before .before .left .ensures) ∙ c .before .before .before .before .if2 .left) (sym (q .same) ∙ sym (c .before .before .before .way-on .ensures) ∙ c .before .before .if3 .left) (sym (q .right) ∙ sym (c .before .right .ensures) ∙ c .if4 .taken)
+sub-result : tie.Need-sub-result
+sub-result c =
+    let s = c .before .before .before .before .before .before .before .before .before .before in
+    way-enough (s .args .s .now) (s .args .i) (s .args .j) (s .args .mask .now) (s .args .records .now) (s .pre .0) (s .args .heads .now) (s .args .work .now) (s .args .end) (s .args .t) (s .args .u) (s .args .k) (s .pre .1) (s .pre .2) (s .pre .3) (s .pre .4) (seen (c .before .before .before)) (wide (c .before .before .before .before .before .before)) (c .before .before .first-way .ensures) (c .before .if1 .taken) (c .turn .ensures .0)
 
-mul-below : tie.Need-mul-below
-mul-below c = omega (arith, (ap₂ (λ (w h : ℕ). w * h) (c .before .before .before .before .before .before .before .before .before .before .before .byte-at .ensures .0) (c .before .before .before .before .before .before .before .before .before .before .byte-at2 .ensures .0)), area-range (c .before .before .before .before .before .before .before .before .before .before .before .before .before .before .before .args .s .now) (c .before .before .before .before .before .before .before .before .before .before .before .before .before .before .before .pre .0 .1 .accepted) .1)
+returns : tie.Need-returns
+returns c =
+    let s = c .before .before .before .before .before .before .before .before .before .before in
+    way-first (s .args .s .now) (s .args .i) (s .args .j) (s .args .mask .now) (s .args .records .now) (s .pre .0) (s .args .heads .now) (s .args .work .now) (s .args .end) (s .args .t) (s .args .u) (s .args .k) (s .pre .1) (s .pre .2) (s .pre .3) (s .pre .4) (seen (c .before .before .before)) (wide (c .before .before .before .before .before .before)) (c .before .before .first-way .ensures) (c .before .if1 .taken) (c .turn .ensures .0)
 
-below-requires : tie.Need-below-requires
-below-requires c κs = let q = seen-at (c .before .before .before .before .before .before .before .before .before .before .before .before .before .before .before .args .s .now) (c .before .before .before .before .before .before .before .before .before .before .before .before .before .before .before .args .i) (c .before .before .before .before .before .before .before .before .before .before .before .before .before .before .before .args .j) (c .before .before .before .before .before .before .before .before .before .before .before .before .before .before .before .pre .0 .0) (c .before .before .before .before .before .before .before .before .before .before .before .before .before .before .before .args .records .now) (c .before .before .before .before .before .before .before .before .before .before .before .before .before .before .before .pre .0 .1) (c .before .before .before .before .before .before .before .before .before .before .before .before .before .before .before .args .heads .now) (c .before .before .before .before .before .before .before .before .before .before .before .before .before .before .before .args .work .now) (c .before .before .before .before .before .before .before .before .before .before .before .before .before .before .before .args .end) (c .before .before .before .before .before .before .before .before .before .before .before .before .before .before .before .args .t) (c .before .before .before .before .before .before .before .before .before .before .before .before .before .before .before .args .u) (c .before .before .before .before .before .before .before .before .before .before .before .before .before .before .before .args .k) (c .before .before .before .before .before .before .before .before .before .before .before .before .before .before .before .pre .1) (c .before .before .before .before .before .before .before .before .before .before .before .before .before .before .before .pre .2) (c .before .before .before .before .before .before .before .before .before .before .before .before .before .before .before .pre .3) (c .before .before .before .before .before .before .before .before .before .before .before .before .before .before .before .pre .4) (c .before .before .before .before .before .before .before .before .before .before .before .byte-at .ensures .0) (ap₂ (λ (w h : ℕ). countIn (c .before .before .before .before .before .before .before .before .before .before .before .before .before .before .before .args .records .now) + (c .before .before .before .before .before .before .before .before .before .before .before .before .before .before .before .args .t + 1) * (((w + 2) * h + 3) / 4)) (c .before .before .before .before .before .before .before .before .before .before .before .byte-at .ensures .0) (c .before .before .before .before .before .before .before .before .before .before .byte-at2 .ensures .0)) (ap (λ (x : ℕ). x - (c .before .before .before .before .before .before .before .before .before .before .before .byte-at .result + 2)) (c .before .before .before .before .before .before .before .before .pad .ensures)) (c .before .before .before .before .before .before .before .before .before .goal-count .ensures .0) (ap₂ (λ (w h : ℕ). w * h) (c .before .before .before .before .before .before .before .before .before .before .before .byte-at .ensures .0) (c .before .before .before .before .before .before .before .before .before .before .byte-at2 .ensures .0)) in (q .sees, q .in-below)
-
-add-result-2 : tie.Need-add-result-2
-add-result-2 c = omega (arith, free-meant (read (c .before .before .before .before .before .before .before .before .before .before .before .before .before .before .before .before .before .args .s .now)) (c .before .before .before .before .before .before .before .before .before .before .before .before .before .before .before .before .before .args .u) .fact (c .before .before .before .before .before .before .before .before .before .before .before .before .before .before .before .before .before .pre .4 .on-free) .on-grid, area-range (c .before .before .before .before .before .before .before .before .before .before .before .before .before .before .before .before .before .args .s .now) (c .before .before .before .before .before .before .before .before .before .before .before .before .before .before .before .before .before .pre .0 .1 .accepted) .1, c .before .before .before .before .before .before .before .before .before .before .before .before .before .byte-at .ensures .1)
-
-returns-5 : tie.Need-returns-5
-returns-5 c = let q = seen-at (c .before .before .before .before .before .before .before .before .before .before .before .before .before .before .before .before .before .args .s .now) (c .before .before .before .before .before .before .before .before .before .before .before .before .before .before .before .before .before .args .i) (c .before .before .before .before .before .before .before .before .before .before .before .before .before .before .before .before .before .args .j) (c .before .before .before .before .before .before .before .before .before .before .before .before .before .before .before .before .before .pre .0 .0) (c .before .before .before .before .before .before .before .before .before .before .before .before .before .before .before .before .before .args .records .now) (c .before .before .before .before .before .before .before .before .before .before .before .before .before .before .before .before .before .pre .0 .1) (c .before .before .before .before .before .before .before .before .before .before .before .before .before .before .before .before .before .args .heads .now) (c .before .before .before .before .before .before .before .before .before .before .before .before .before .before .before .before .before .args .work .now) (c .before .before .before .before .before .before .before .before .before .before .before .before .before .before .before .before .before .args .end) (c .before .before .before .before .before .before .before .before .before .before .before .before .before .before .before .before .before .args .t) (c .before .before .before .before .before .before .before .before .before .before .before .before .before .before .before .before .before .args .u) (c .before .before .before .before .before .before .before .before .before .before .before .before .before .before .before .before .before .args .k) (c .before .before .before .before .before .before .before .before .before .before .before .before .before .before .before .before .before .pre .1) (c .before .before .before .before .before .before .before .before .before .before .before .before .before .before .before .before .before .pre .2) (c .before .before .before .before .before .before .before .before .before .before .before .before .before .before .before .before .before .pre .3) (c .before .before .before .before .before .before .before .before .before .before .before .before .before .before .before .before .before .pre .4) (c .before .before .before .before .before .before .before .before .before .before .before .before .before .byte-at .ensures .0) (ap₂ (λ (w h : ℕ). countIn (c .before .before .before .before .before .before .before .before .before .before .before .before .before .before .before .before .before .args .records .now) + (c .before .before .before .before .before .before .before .before .before .before .before .before .before .before .before .before .before .args .t + 1) * (((w + 2) * h + 3) / 4)) (c .before .before .before .before .before .before .before .before .before .before .before .before .before .byte-at .ensures .0) (c .before .before .before .before .before .before .before .before .before .before .before .before .byte-at2 .ensures .0)) (ap (λ (x : ℕ). x - (c .before .before .before .before .before .before .before .before .before .before .before .before .before .byte-at .result + 2)) (c .before .before .before .before .before .before .before .before .before .before .pad .ensures)) (c .before .before .before .before .before .before .before .before .before .before .before .goal-count .ensures .0) (ap₂ (λ (w h : ℕ). w * h) (c .before .before .before .before .before .before .before .before .before .before .before .before .before .byte-at .ensures .0) (c .before .before .before .before .before .before .before .before .before .before .before .before .byte-at2 .ensures .0)) in ap (λ (x : ℕ). c .before .before .before .before .before .before .before .before .before .before .before .before .before .before .before .before .before .args .u + x) (c .before .before .before .before .before .before .before .before .before .before .before .before .before .byte-at .ensures .0) ∙ first-below (read (c .before .before .before .before .before .before .before .before .before .before .before .before .before .before .before .before .before .args .s .now)) (onward (read (c .before .before .before .before .before .before .before .before .before .before .before .before .before .before .before .before .before .args .s .now)) (c .before .before .before .before .before .before .before .before .before .before .before .before .before .before .before .before .before .args .i) (c .before .before .before .before .before .before .before .before .before .before .before .before .before .before .before .before .before .args .j) (constraintsOf (c .before .before .before .before .before .before .before .before .before .before .before .before .before .before .before .before .before .args .records .now)) (c .before .before .before .before .before .before .before .before .before .before .before .before .before .before .before .before .before .args .end - (c .before .before .before .before .before .before .before .before .before .before .before .before .before .before .before .before .before .args .t + 1)) (c .before .before .before .before .before .before .before .before .before .before .before .before .before .before .before .before .before .args .t) (c .before .before .before .before .before .before .before .before .before .before .before .before .before .before .before .before .before .args .u) (c .before .before .before .before .before .before .before .before .before .before .before .before .before .before .before .before .before .args .k)) (c .before .before .before .before .before .before .before .before .before .before .before .before .before .before .before .before .before .args .u) (sym (q .above) ∙ sym (c .before .before .before .before .before .before .before .before .before .above .ensures) ∙ c .before .before .before .before .before .before .before .before .if1 .left) (sym (q .left) ∙ sym (c .before .before .before .before .before .before .before .left .ensures) ∙ c .before .before .before .before .before .before .if2 .left) (sym (q .same) ∙ sym (c .before .before .before .before .before .way-on .ensures) ∙ c .before .before .before .before .if3 .left) (sym (q .right) ∙ sym (c .before .before .before .right .ensures) ∙ c .before .before .if4 .left) (sym (q .below) ∙ sym (c .before .below .ensures) ∙ c .if5 .taken)
-
-returns-6 : tie.Need-returns-6
-returns-6 c = let q = seen-at (c .before .before .before .before .before .before .before .before .before .before .before .before .before .before .before .before .before .args .s .now) (c .before .before .before .before .before .before .before .before .before .before .before .before .before .before .before .before .before .args .i) (c .before .before .before .before .before .before .before .before .before .before .before .before .before .before .before .before .before .args .j) (c .before .before .before .before .before .before .before .before .before .before .before .before .before .before .before .before .before .pre .0 .0) (c .before .before .before .before .before .before .before .before .before .before .before .before .before .before .before .before .before .args .records .now) (c .before .before .before .before .before .before .before .before .before .before .before .before .before .before .before .before .before .pre .0 .1) (c .before .before .before .before .before .before .before .before .before .before .before .before .before .before .before .before .before .args .heads .now) (c .before .before .before .before .before .before .before .before .before .before .before .before .before .before .before .before .before .args .work .now) (c .before .before .before .before .before .before .before .before .before .before .before .before .before .before .before .before .before .args .end) (c .before .before .before .before .before .before .before .before .before .before .before .before .before .before .before .before .before .args .t) (c .before .before .before .before .before .before .before .before .before .before .before .before .before .before .before .before .before .args .u) (c .before .before .before .before .before .before .before .before .before .before .before .before .before .before .before .before .before .args .k) (c .before .before .before .before .before .before .before .before .before .before .before .before .before .before .before .before .before .pre .1) (c .before .before .before .before .before .before .before .before .before .before .before .before .before .before .before .before .before .pre .2) (c .before .before .before .before .before .before .before .before .before .before .before .before .before .before .before .before .before .pre .3) (c .before .before .before .before .before .before .before .before .before .before .before .before .before .before .before .before .before .pre .4) (c .before .before .before .before .before .before .before .before .before .before .before .before .before .byte-at .ensures .0) (ap₂ (λ (w h : ℕ). countIn (c .before .before .before .before .before .before .before .before .before .before .before .before .before .before .before .before .before .args .records .now) + (c .before .before .before .before .before .before .before .before .before .before .before .before .before .before .before .before .before .args .t + 1) * (((w + 2) * h + 3) / 4)) (c .before .before .before .before .before .before .before .before .before .before .before .before .before .byte-at .ensures .0) (c .before .before .before .before .before .before .before .before .before .before .before .before .byte-at2 .ensures .0)) (ap (λ (x : ℕ). x - (c .before .before .before .before .before .before .before .before .before .before .before .before .before .byte-at .result + 2)) (c .before .before .before .before .before .before .before .before .before .before .pad .ensures)) (c .before .before .before .before .before .before .before .before .before .before .before .goal-count .ensures .0) (ap₂ (λ (w h : ℕ). w * h) (c .before .before .before .before .before .before .before .before .before .before .before .before .before .byte-at .ensures .0) (c .before .before .before .before .before .before .before .before .before .before .before .before .byte-at2 .ensures .0)) in first-none (read (c .before .before .before .before .before .before .before .before .before .before .before .before .before .before .before .before .before .args .s .now)) (onward (read (c .before .before .before .before .before .before .before .before .before .before .before .before .before .before .before .before .before .args .s .now)) (c .before .before .before .before .before .before .before .before .before .before .before .before .before .before .before .before .before .args .i) (c .before .before .before .before .before .before .before .before .before .before .before .before .before .before .before .before .before .args .j) (constraintsOf (c .before .before .before .before .before .before .before .before .before .before .before .before .before .before .before .before .before .args .records .now)) (c .before .before .before .before .before .before .before .before .before .before .before .before .before .before .before .before .before .args .end - (c .before .before .before .before .before .before .before .before .before .before .before .before .before .before .before .before .before .args .t + 1)) (c .before .before .before .before .before .before .before .before .before .before .before .before .before .before .before .before .before .args .t) (c .before .before .before .before .before .before .before .before .before .before .before .before .before .before .before .before .before .args .u) (c .before .before .before .before .before .before .before .before .before .before .before .before .before .before .before .before .before .args .k)) (c .before .before .before .before .before .before .before .before .before .before .before .before .before .before .before .before .before .args .u) (sym (q .above) ∙ sym (c .before .before .before .before .before .before .before .before .before .above .ensures) ∙ c .before .before .before .before .before .before .before .before .if1 .left) (sym (q .left) ∙ sym (c .before .before .before .before .before .before .before .left .ensures) ∙ c .before .before .before .before .before .before .if2 .left) (sym (q .same) ∙ sym (c .before .before .before .before .before .way-on .ensures) ∙ c .before .before .before .before .if3 .left) (sym (q .right) ∙ sym (c .before .before .before .right .ensures) ∙ c .before .before .if4 .left) (sym (q .below) ∙ sym (c .before .below .ensures) ∙ c .if5 .left)
+returns-2 : tie.Need-returns-2
+returns-2 c =
+    let s = c .before .before .before .before .before .before .before .before .before in
+    way-none (s .args .s .now) (s .args .i) (s .args .j) (s .args .mask .now) (s .args .records .now) (s .pre .0) (s .args .heads .now) (s .args .work .now) (s .args .end) (s .args .t) (s .args .u) (s .args .k) (s .pre .1) (s .pre .2) (s .pre .3) (s .pre .4) (seen (c .before .before)) (wide (c .before .before .before .before .before)) (c .before .first-way .ensures) (c .if1 .left)
 
 pub next-place-spec : {M : Type 1} → statement M
 next-place-spec =
@@ -118,21 +109,9 @@ next-place-spec =
     mul-at-2
     add-at-4
     pad-requires
-    add-b
-    sub-b
-    above-requires
+    first-way-requires
+    turn-requires
+    add-result
     sub-result
     returns
-    left-requires
-    sub-result-2
-    returns-2
-    way-on-requires
-    returns-3
-    right-requires
-    add-result
-    returns-4
-    mul-below
-    below-requires
-    add-result-2
-    returns-5
-    returns-6)
+    returns-2)

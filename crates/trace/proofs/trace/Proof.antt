@@ -18,10 +18,10 @@ use Rattle.trace.proofs.trace.Statement.{statement}
 use Rattle.trace.proofs.trace.Tie as tie
 
 abbrev Inv-loop : tie.InvT-loop
-Inv-loop s i j goals records heads work end out₀ w horizon n last u₀ k₀ t₀ out u k t = (t ≤ end) × Traced (read s) i j (constraintsOf records) end out₀ out u k t
+Inv-loop s i j mask goals records heads work end out₀ w horizon n last u₀ k₀ t₀ out u k t = (t ≤ end) × Traced (read s) i j (constraintsOf records) end out₀ out u k t
 
 abbrev μ-loop : tie.MeasureT-loop
-μ-loop s i j goals records heads work end out₀ w horizon n last u₀ k₀ t₀ out u k t = end - t
+μ-loop s i j mask goals records heads work end out₀ w horizon n last u₀ k₀ t₀ out u k t = end - t
 
 byte-at-requires : tie.Need-byte-at-requires Inv-loop μ-loop
 byte-at-requires c κs = search needs
@@ -39,10 +39,10 @@ start-requires : tie.Need-start-requires Inv-loop μ-loop
 start-requires c κs = search needs
 
 pad-requires : tie.Need-pad-requires Inv-loop μ-loop
-pad-requires c κs = (omega (arith, (c .before .before .before .before .byte-at .ensures .0), wide-one (c .before .before .before .before .before .before .before .before .before .pre .0 .1)), omega (arith, (c .before .before .before .before .byte-at .ensures .0), wide-most (c .before .before .before .before .before .before .before .before .before .pre .0 .1)), omega (arith, c .start .ensures .1 .0 (c .before .before .before .before .before .before .before .before .before .pre .0 .1 .accepted), area-range (c .before .before .before .before .before .before .before .before .before .args .s .now) (c .before .before .before .before .before .before .before .before .before .pre .0 .1 .accepted) .1))
+pad-requires c κs = (omega (arith, (c .before .before .before .before .byte-at .ensures .0), wide-one (c .before .before .before .before .before .before .before .before .before .pre .0)), omega (arith, (c .before .before .before .before .byte-at .ensures .0), wide-most (c .before .before .before .before .before .before .before .before .before .pre .0)), omega (arith, c .start .ensures .1 .0 (c .before .before .before .before .before .before .before .before .before .pre .0 .accepted), area-range (c .before .before .before .before .before .before .before .before .before .args .s .now) (c .before .before .before .before .before .before .before .before .before .pre .0 .accepted) .1))
 
 visit-requires : tie.Need-visit-requires Inv-loop μ-loop
-visit-requires c κs = (omega (arith, (c .before .before .before .goal-count .ensures .0), few-goals (c .before .before .before .before .before .before .before .before .before .before .pre .0 .1)), omega arith)
+visit-requires c κs = (omega (arith, (c .before .before .before .goal-count .ensures .0), few-goals (c .before .before .before .before .before .before .before .before .before .before .pre .0)), omega arith)
 
 narrow-requires : tie.Need-narrow-requires Inv-loop μ-loop
 narrow-requires c κs = c .before .before .start .ensures .1 .1
@@ -51,40 +51,40 @@ slice-write-out : tie.Need-slice-write-out Inv-loop μ-loop
 slice-write-out c = omega (arith, c .before .before .before .before .before .before .before .before .before .before .before .before .pre .5)
 
 loop-holds : tie.Need-loop-holds Inv-loop μ-loop
-loop-holds c = (omega arith, traced-first (read (c .before .before .before .before .before .before .before .before .before .before .before .before .args .s .now)) (c .before .before .before .before .before .before .before .before .before .before .before .before .args .i) (c .before .before .before .before .before .before .before .before .before .before .before .before .args .j) (constraintsOf (c .before .before .before .before .before .before .before .before .before .before .before .before .args .records .now)) (c .before .before .before .before .before .before .before .before .before .before .before .before .args .end) _ (first-on-time (read (c .before .before .before .before .before .before .before .before .before .before .before .before .args .s .now)) (c .before .before .before .before .before .before .before .before .before .before .before .before .args .i) (c .before .before .before .before .before .before .before .before .before .before .before .before .args .j) (constraintsOf (c .before .before .before .before .before .before .before .before .before .before .before .before .args .records .now)) (begins-free (c .before .before .before .before .before .before .before .before .before .before .before .before .pre .0 .1)) (ends-free (c .before .before .before .before .before .before .before .before .before .before .before .before .pre .0 .1)) (in-time (c .before .before .before .before .before .before .before .before .before .before .before .before .pre .0 .1)) (c .before .before .before .before .before .before .before .before .before .before .before .before .args .end) (c .before .before .before .before .before .before .before .before .before .before .before .before .pre .4) (c .before .before .before .before .before .before .before .before .before .before .before .before .pre .3)) (c .before .before .before .start .ensures .0) (visited-up _ (omega (arith, (c .before .before .before .before .before .before .before .byte-at .ensures .0), wide-one (c .before .before .before .before .before .before .before .before .before .before .before .before .pre .0 .1))) (goalsOf (read (c .before .before .before .before .before .before .before .before .before .before .before .before .args .s .now)) (c .before .before .before .before .before .before .before .before .before .before .before .before .args .j)) (c .before .before .before .before .before .before .before .before .before .before .before .before .args .goals .now) _ (startOf (read (c .before .before .before .before .before .before .before .before .before .before .before .before .args .s .now)) (c .before .before .before .before .before .before .before .before .before .before .before .before .args .i)) _ 0 _ (forth-at (c .before .before .before .before .before .before .before .before .before .before .before .before .args .s .now) (c .before .before .before .before .before .before .before .before .before .before .before .before .args .i) (c .before .before .before .before .before .before .before .before .before .before .before .before .args .j) (c .before .before .before .before .before .before .before .before .before .before .before .before .pre .0 .0) (c .before .before .before .before .before .before .before .before .before .before .before .before .args .records .now) (c .before .before .before .before .before .before .before .before .before .before .before .before .pre .0 .1) _ _ (c .before .before .before .before .before .before .before .byte-at .ensures .0) (c .before .before .before .before .before .goal-count .ensures .0) (c .before .before .before .before .before .before .before .before .before .before .before .before .args .goals .now) (c .before .before .before .before .before .before .before .before .before .before .before .before .pre .1)) (c .before .before .pad .ensures ∙ ap (padOf _) (c .before .before .before .start .ensures .0)) (c .before .visit .ensures)))
+loop-holds c = (omega arith, traced-first (read (c .before .before .before .before .before .before .before .before .before .before .before .before .args .s .now)) (c .before .before .before .before .before .before .before .before .before .before .before .before .args .i) (c .before .before .before .before .before .before .before .before .before .before .before .before .args .j) (constraintsOf (c .before .before .before .before .before .before .before .before .before .before .before .before .args .records .now)) (c .before .before .before .before .before .before .before .before .before .before .before .before .args .end) _ (first-on-time (read (c .before .before .before .before .before .before .before .before .before .before .before .before .args .s .now)) (c .before .before .before .before .before .before .before .before .before .before .before .before .args .i) (c .before .before .before .before .before .before .before .before .before .before .before .before .args .j) (constraintsOf (c .before .before .before .before .before .before .before .before .before .before .before .before .args .records .now)) (begins-free (c .before .before .before .before .before .before .before .before .before .before .before .before .pre .0)) (ends-free (c .before .before .before .before .before .before .before .before .before .before .before .before .pre .0)) (in-time (c .before .before .before .before .before .before .before .before .before .before .before .before .pre .0)) (c .before .before .before .before .before .before .before .before .before .before .before .before .args .end) (c .before .before .before .before .before .before .before .before .before .before .before .before .pre .4) (c .before .before .before .before .before .before .before .before .before .before .before .before .pre .3)) (c .before .before .before .start .ensures .0) (visited-up _ (omega (arith, (c .before .before .before .before .before .before .before .byte-at .ensures .0), wide-one (c .before .before .before .before .before .before .before .before .before .before .before .before .pre .0))) (goalsOf (read (c .before .before .before .before .before .before .before .before .before .before .before .before .args .s .now)) (c .before .before .before .before .before .before .before .before .before .before .before .before .args .j)) (c .before .before .before .before .before .before .before .before .before .before .before .before .args .goals .now) _ (startOf (read (c .before .before .before .before .before .before .before .before .before .before .before .before .args .s .now)) (c .before .before .before .before .before .before .before .before .before .before .before .before .args .i)) _ 0 _ (forth-at (c .before .before .before .before .before .before .before .before .before .before .before .before .args .s .now) (c .before .before .before .before .before .before .before .before .before .before .before .before .args .i) (c .before .before .before .before .before .before .before .before .before .before .before .before .args .j) (c .before .before .before .before .before .before .before .before .before .before .before .before .args .mask .now) (c .before .before .before .before .before .before .before .before .before .before .before .before .args .records .now) (c .before .before .before .before .before .before .before .before .before .before .before .before .pre .0) _ _ (c .before .before .before .before .before .before .before .byte-at .ensures .0) (c .before .before .before .before .before .goal-count .ensures .0) (c .before .before .before .before .before .before .before .before .before .before .before .before .args .goals .now) (c .before .before .before .before .before .before .before .before .before .before .before .before .pre .1)) (c .before .before .pad .ensures ∙ ap (padOf _) (c .before .before .before .start .ensures .0)) (c .before .visit .ensures)))
 
 next-place-requires : tie.Need-next-place-requires Inv-loop μ-loop
 next-place-requires c κs = (c .before .before .before .before .before .before .before .before .before .before .before .before .before .before .pre .0, c .before .before .before .before .before .before .before .before .before .before .before .before .before .before .pre .2, c .loop-test .taken, c .before .before .before .before .before .before .before .before .before .before .before .before .before .before .pre .3, c .before .loop .inv .1 .time)
 
 pad-requires-2 : tie.Need-pad-requires-2 Inv-loop μ-loop
-pad-requires-2 c κs = let o = (next-time (read (c .before .before .before .before .before .before .before .before .before .before .before .before .before .before .before .args .s .now)) (c .before .before .before .before .before .before .before .before .before .before .before .before .before .before .before .args .i) (c .before .before .before .before .before .before .before .before .before .before .before .before .before .before .before .args .j) (constraintsOf (c .before .before .before .before .before .before .before .before .before .before .before .before .before .before .before .args .records .now)) (c .before .before .before .before .before .before .before .before .before .before .before .before .before .before .before .args .end) (begins-free (c .before .before .before .before .before .before .before .before .before .before .before .before .before .before .before .pre .0 .1)) (c .before .before .loop .inv .1) (c .before .loop-test .taken) (c .next-place .ensures) refl) in (omega (arith, (c .before .before .before .before .before .before .before .before .before .before .byte-at .ensures .0), wide-one (c .before .before .before .before .before .before .before .before .before .before .before .before .before .before .before .pre .0 .1)), omega (arith, (c .before .before .before .before .before .before .before .before .before .before .byte-at .ensures .0), wide-most (c .before .before .before .before .before .before .before .before .before .before .before .before .before .before .before .pre .0 .1)), omega (arith, free-meant (read (c .before .before .before .before .before .before .before .before .before .before .before .before .before .before .before .args .s .now)) _ .fact (o .on-free) .on-grid, area-range (c .before .before .before .before .before .before .before .before .before .before .before .before .before .before .before .args .s .now) (c .before .before .before .before .before .before .before .before .before .before .before .before .before .before .before .pre .0 .1 .accepted) .1))
+pad-requires-2 c κs = let o = (next-time (read (c .before .before .before .before .before .before .before .before .before .before .before .before .before .before .before .args .s .now)) (c .before .before .before .before .before .before .before .before .before .before .before .before .before .before .before .args .i) (c .before .before .before .before .before .before .before .before .before .before .before .before .before .before .before .args .j) (constraintsOf (c .before .before .before .before .before .before .before .before .before .before .before .before .before .before .before .args .records .now)) (c .before .before .before .before .before .before .before .before .before .before .before .before .before .before .before .args .end) (begins-free (c .before .before .before .before .before .before .before .before .before .before .before .before .before .before .before .pre .0)) (c .before .before .loop .inv .1) (c .before .loop-test .taken) (c .next-place .ensures) refl) in (omega (arith, (c .before .before .before .before .before .before .before .before .before .before .byte-at .ensures .0), wide-one (c .before .before .before .before .before .before .before .before .before .before .before .before .before .before .before .pre .0)), omega (arith, (c .before .before .before .before .before .before .before .before .before .before .byte-at .ensures .0), wide-most (c .before .before .before .before .before .before .before .before .before .before .before .before .before .before .before .pre .0)), omega (arith, free-meant (read (c .before .before .before .before .before .before .before .before .before .before .before .before .before .before .before .args .s .now)) _ .fact (o .on-free) .on-grid, area-range (c .before .before .before .before .before .before .before .before .before .before .before .before .before .before .before .args .s .now) (c .before .before .before .before .before .before .before .before .before .before .before .before .before .before .before .pre .0 .accepted) .1))
 
 visit-requires-2 : tie.Need-visit-requires-2 Inv-loop μ-loop
-visit-requires-2 c κs = (omega (arith, (c .before .before .before .before .before .before .before .before .before .goal-count .ensures .0), few-goals (c .before .before .before .before .before .before .before .before .before .before .before .before .before .before .before .before .pre .0 .1)), omega (arith, (c .before .before .before .before .before .before .before .before .before .goal-count .ensures .0), c .before .before .before .loop .inv .1 .time .label))
+visit-requires-2 c κs = (omega (arith, (c .before .before .before .before .before .before .before .before .before .goal-count .ensures .0), few-goals (c .before .before .before .before .before .before .before .before .before .before .before .before .before .before .before .before .pre .0)), omega (arith, (c .before .before .before .before .before .before .before .before .before .goal-count .ensures .0), c .before .before .before .loop .inv .1 .time .label))
 
 narrow-requires-2 : tie.Need-narrow-requires-2 Inv-loop μ-loop
-narrow-requires-2 c κs = let o = (next-time (read (c .before .before .before .before .before .before .before .before .before .before .before .before .before .before .before .before .before .args .s .now)) (c .before .before .before .before .before .before .before .before .before .before .before .before .before .before .before .before .before .args .i) (c .before .before .before .before .before .before .before .before .before .before .before .before .before .before .before .before .before .args .j) (constraintsOf (c .before .before .before .before .before .before .before .before .before .before .before .before .before .before .before .before .before .args .records .now)) (c .before .before .before .before .before .before .before .before .before .before .before .before .before .before .before .before .before .args .end) (begins-free (c .before .before .before .before .before .before .before .before .before .before .before .before .before .before .before .before .before .pre .0 .1)) (c .before .before .before .before .loop .inv .1) (c .before .before .before .loop-test .taken) (c .before .before .next-place .ensures) refl) in omega (arith, free-meant (read (c .before .before .before .before .before .before .before .before .before .before .before .before .before .before .before .before .before .args .s .now)) _ .fact (o .on-free) .on-grid, area-range (c .before .before .before .before .before .before .before .before .before .before .before .before .before .before .before .before .before .args .s .now) (c .before .before .before .before .before .before .before .before .before .before .before .before .before .before .before .before .before .pre .0 .1 .accepted) .1)
+narrow-requires-2 c κs = let o = (next-time (read (c .before .before .before .before .before .before .before .before .before .before .before .before .before .before .before .before .before .args .s .now)) (c .before .before .before .before .before .before .before .before .before .before .before .before .before .before .before .before .before .args .i) (c .before .before .before .before .before .before .before .before .before .before .before .before .before .before .before .before .before .args .j) (constraintsOf (c .before .before .before .before .before .before .before .before .before .before .before .before .before .before .before .before .before .args .records .now)) (c .before .before .before .before .before .before .before .before .before .before .before .before .before .before .before .before .before .args .end) (begins-free (c .before .before .before .before .before .before .before .before .before .before .before .before .before .before .before .before .before .pre .0)) (c .before .before .before .before .loop .inv .1) (c .before .before .before .loop-test .taken) (c .before .before .next-place .ensures) refl) in omega (arith, free-meant (read (c .before .before .before .before .before .before .before .before .before .before .before .before .before .before .before .before .before .args .s .now)) _ .fact (o .on-free) .on-grid, area-range (c .before .before .before .before .before .before .before .before .before .before .before .before .before .before .before .before .before .args .s .now) (c .before .before .before .before .before .before .before .before .before .before .before .before .before .before .before .before .before .pre .0 .accepted) .1)
 
 add-out : tie.Need-add-out Inv-loop μ-loop
-add-out c = omega (arith, c .before .before .before .before .loop-test .taken, c .before .before .before .before .before .before .before .before .before .before .before .before .before .before .before .before .before .before .pre .3, horizon-most (c .before .before .before .before .before .before .before .before .before .before .before .before .before .before .before .before .before .before .pre .0 .1))
+add-out c = omega (arith, c .before .before .before .before .loop-test .taken, c .before .before .before .before .before .before .before .before .before .before .before .before .before .before .before .before .before .before .pre .3, horizon-most (c .before .before .before .before .before .before .before .before .before .before .before .before .before .before .before .before .before .before .pre .0))
 
 mul-out : tie.Need-mul-out Inv-loop μ-loop
-mul-out c = omega (arith, c .before .before .before .before .loop-test .taken, c .before .before .before .before .before .before .before .before .before .before .before .before .before .before .before .before .before .before .pre .3, horizon-most (c .before .before .before .before .before .before .before .before .before .before .before .before .before .before .before .before .before .before .pre .0 .1))
+mul-out c = omega (arith, c .before .before .before .before .loop-test .taken, c .before .before .before .before .before .before .before .before .before .before .before .before .before .before .before .before .before .before .pre .3, horizon-most (c .before .before .before .before .before .before .before .before .before .before .before .before .before .before .before .before .before .before .pre .0))
 
 slice-write-out-2 : tie.Need-slice-write-out-2 Inv-loop μ-loop
 slice-write-out-2 c = omega (arith, c .before .before .before .before .before .loop .inv .1 .written .size, length-set (c .before .before .before .before .before .before .before .before .before .before .before .before .before .before .before .before .before .before .args .out .now) 0 (c .before .before .before .before .before .before .narrow .result), c .before .before .before .before .before .before .before .before .before .before .before .before .before .before .before .before .before .before .pre .5, c .before .before .before .before .before .before .before .before .before .before .before .before .before .before .before .before .before .before .pre .3, c .before .before .before .before .loop-test .taken)
 
 add-t : tie.Need-add-t Inv-loop μ-loop
-add-t c = omega (arith, c .before .before .before .before .loop-test .taken, c .before .before .before .before .before .before .before .before .before .before .before .before .before .before .before .before .before .before .pre .3, horizon-most (c .before .before .before .before .before .before .before .before .before .before .before .before .before .before .before .before .before .before .pre .0 .1))
+add-t c = omega (arith, c .before .before .before .before .loop-test .taken, c .before .before .before .before .before .before .before .before .before .before .before .before .before .before .before .before .before .before .pre .3, horizon-most (c .before .before .before .before .before .before .before .before .before .before .before .before .before .before .before .before .before .before .pre .0))
 
 loop-less : tie.Need-loop-less Inv-loop μ-loop
 loop-less c = omega arith
 
 loop-again : tie.Need-loop-again Inv-loop μ-loop
-loop-again c = (omega arith, traced-next (read (c .before .before .before .before .before .before .before .before .before .before .before .before .before .before .before .before .before .before .args .s .now)) (c .before .before .before .before .before .before .before .before .before .before .before .before .before .before .before .before .before .before .args .i) (c .before .before .before .before .before .before .before .before .before .before .before .before .before .before .before .before .before .before .args .j) (constraintsOf (c .before .before .before .before .before .before .before .before .before .before .before .before .before .before .before .before .before .before .args .records .now)) (c .before .before .before .before .before .before .before .before .before .before .before .before .before .before .before .before .before .before .args .end) (begins-free (c .before .before .before .before .before .before .before .before .before .before .before .before .before .before .before .before .before .before .pre .0 .1)) (c .before .before .before .before .before .loop .inv .1) (c .before .before .before .before .loop-test .taken) (c .before .before .before .next-place .ensures) (visited-up _ (omega (arith, (c .before .before .before .before .before .before .before .before .before .before .before .before .before .byte-at .ensures .0), wide-one (c .before .before .before .before .before .before .before .before .before .before .before .before .before .before .before .before .before .before .pre .0 .1))) (goalsOf (read (c .before .before .before .before .before .before .before .before .before .before .before .before .before .before .before .before .before .before .args .s .now)) (c .before .before .before .before .before .before .before .before .before .before .before .before .before .before .before .before .before .before .args .j)) (c .before .before .before .before .before .before .before .before .before .before .before .before .before .before .before .before .before .before .args .goals .now) _ _ _ (c .before .before .before .before .before .loop .k) _ (forth-at (c .before .before .before .before .before .before .before .before .before .before .before .before .before .before .before .before .before .before .args .s .now) (c .before .before .before .before .before .before .before .before .before .before .before .before .before .before .before .before .before .before .args .i) (c .before .before .before .before .before .before .before .before .before .before .before .before .before .before .before .before .before .before .args .j) (c .before .before .before .before .before .before .before .before .before .before .before .before .before .before .before .before .before .before .pre .0 .0) (c .before .before .before .before .before .before .before .before .before .before .before .before .before .before .before .before .before .before .args .records .now) (c .before .before .before .before .before .before .before .before .before .before .before .before .before .before .before .before .before .before .pre .0 .1) _ _ (c .before .before .before .before .before .before .before .before .before .before .before .before .before .byte-at .ensures .0) (c .before .before .before .before .before .before .before .before .before .before .before .goal-count .ensures .0) (c .before .before .before .before .before .before .before .before .before .before .before .before .before .before .before .before .before .before .args .goals .now) (c .before .before .before .before .before .before .before .before .before .before .before .before .before .before .before .before .before .before .pre .1)) (c .before .before .pad2 .ensures) (c .before .visit2 .ensures)) _ (c .narrow2 .ensures) (omega (arith, length-set (c .before .before .before .before .before .before .before .before .before .before .before .before .before .before .before .before .before .before .args .out .now) 0 (c .before .before .before .before .before .before .narrow .result), c .before .before .before .before .before .before .before .before .before .before .before .before .before .before .before .before .before .before .pre .5, c .before .before .before .before .before .before .before .before .before .before .before .before .before .before .before .before .before .before .pre .3, c .before .before .before .before .loop-test .taken)))
+loop-again c = (omega arith, traced-next (read (c .before .before .before .before .before .before .before .before .before .before .before .before .before .before .before .before .before .before .args .s .now)) (c .before .before .before .before .before .before .before .before .before .before .before .before .before .before .before .before .before .before .args .i) (c .before .before .before .before .before .before .before .before .before .before .before .before .before .before .before .before .before .before .args .j) (constraintsOf (c .before .before .before .before .before .before .before .before .before .before .before .before .before .before .before .before .before .before .args .records .now)) (c .before .before .before .before .before .before .before .before .before .before .before .before .before .before .before .before .before .before .args .end) (begins-free (c .before .before .before .before .before .before .before .before .before .before .before .before .before .before .before .before .before .before .pre .0)) (c .before .before .before .before .before .loop .inv .1) (c .before .before .before .before .loop-test .taken) (c .before .before .before .next-place .ensures) (visited-up _ (omega (arith, (c .before .before .before .before .before .before .before .before .before .before .before .before .before .byte-at .ensures .0), wide-one (c .before .before .before .before .before .before .before .before .before .before .before .before .before .before .before .before .before .before .pre .0))) (goalsOf (read (c .before .before .before .before .before .before .before .before .before .before .before .before .before .before .before .before .before .before .args .s .now)) (c .before .before .before .before .before .before .before .before .before .before .before .before .before .before .before .before .before .before .args .j)) (c .before .before .before .before .before .before .before .before .before .before .before .before .before .before .before .before .before .before .args .goals .now) _ _ _ (c .before .before .before .before .before .loop .k) _ (forth-at (c .before .before .before .before .before .before .before .before .before .before .before .before .before .before .before .before .before .before .args .s .now) (c .before .before .before .before .before .before .before .before .before .before .before .before .before .before .before .before .before .before .args .i) (c .before .before .before .before .before .before .before .before .before .before .before .before .before .before .before .before .before .before .args .j) (c .before .before .before .before .before .before .before .before .before .before .before .before .before .before .before .before .before .before .args .mask .now) (c .before .before .before .before .before .before .before .before .before .before .before .before .before .before .before .before .before .before .args .records .now) (c .before .before .before .before .before .before .before .before .before .before .before .before .before .before .before .before .before .before .pre .0) _ _ (c .before .before .before .before .before .before .before .before .before .before .before .before .before .byte-at .ensures .0) (c .before .before .before .before .before .before .before .before .before .before .before .goal-count .ensures .0) (c .before .before .before .before .before .before .before .before .before .before .before .before .before .before .before .before .before .before .args .goals .now) (c .before .before .before .before .before .before .before .before .before .before .before .before .before .before .before .before .before .before .pre .1)) (c .before .before .pad2 .ensures) (c .before .visit2 .ensures)) _ (c .narrow2 .ensures) (omega (arith, length-set (c .before .before .before .before .before .before .before .before .before .before .before .before .before .before .before .before .before .before .args .out .now) 0 (c .before .before .before .before .before .before .narrow .result), c .before .before .before .before .before .before .before .before .before .before .before .before .before .before .before .before .before .before .pre .5, c .before .before .before .before .before .before .before .before .before .before .before .before .before .before .before .before .before .before .pre .3, c .before .before .before .before .loop-test .taken)))
 
 add-stay : tie.Need-add-stay Inv-loop μ-loop
-add-stay c = omega (arith, c .before .before .before .before .before .before .before .before .before .before .before .before .before .before .before .pre .3, horizon-most (c .before .before .before .before .before .before .before .before .before .before .before .before .before .before .before .pre .0 .1))
+add-stay c = omega (arith, c .before .before .before .before .before .before .before .before .before .before .before .before .before .before .before .pre .3, horizon-most (c .before .before .before .before .before .before .before .before .before .before .before .before .before .before .before .pre .0))
 
 add-stay-2 : tie.Need-add-stay-2 Inv-loop μ-loop
 add-stay-2 c = omega (arith, c .before .before .before .before .before .before .before .before .before .byte-at2 .ensures .1)

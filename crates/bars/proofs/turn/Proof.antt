@@ -1,10 +1,10 @@
--- `first_walk::turn` meets its contract, by its cases. Assumes nothing.
+-- `bars::turn` meets its contract, by its cases. Assumes nothing.
 use borrow.Author.Needs.{needs}
 use native.Mathlib.Omega.{arith}
 use mathlib.Core.Path.{refl}
-use Rattle.first_walk.proofs.Ways.{turn-at, turn-last}
-use Rattle.first_walk.proofs.turn.Statement.{statement}
-use Rattle.first_walk.proofs.turn.Tie as tie
+use Rattle.bars.proofs.Leads.{turn-at, turn-last}
+use Rattle.bars.proofs.turn.Statement.{statement}
+use Rattle.bars.proofs.turn.Tie as tie
 
 returns : tie.Need-returns
 returns c = (turn-at (c .before .args .w) (c .before .args .x) 0 (c .if1 .taken) refl, omega arith)
