@@ -154,8 +154,8 @@ fn last_two(s: &[u8], j: Task, mask: &[u8; 1156], goals: &[usize; 8], n: usize, 
     requires { ⌜ Given (now s) j (now mask) × Goals (now s) j (now goals) × (n ≡ length (goalsOf (read (now s)) j)) × (length (now table) ≡ 9216) ⌝ }
     ensures { λ _. ⌜ Graded (read (now (s .entry))) j (n - 1) (now (table .exit)) ⌝ }
 {
-    let w = sheet::byte_at(s, 0);
-    let h = sheet::byte_at(s, 1);
+    let w = sheet::width(s);
+    let h = sheet::height(s);
     let last = layer(mask, w, h, goals[n - 1], 0);
     store(&last, w, h, 1024 * n, table);
     store(&last, w, h, 1024 * (n - 1), table);
@@ -166,8 +166,8 @@ fn level(s: &[u8], j: Task, mask: &[u8; 1156], goals: &[usize; 8], k: usize, tab
     requires { ⌜ Given (now s) j (now mask) × Goals (now s) j (now goals) × (k < length (goalsOf (read (now s)) j)) × Graded (read (now s)) j (suc k) (now table) ⌝ }
     ensures { λ _. ⌜ Graded (read (now (s .entry))) j k (now (table .exit)) ⌝ }
 {
-    let w = sheet::byte_at(s, 0);
-    let h = sheet::byte_at(s, 1);
+    let w = sheet::width(s);
+    let h = sheet::height(s);
     let base = table[1024 * (k + 1) + sheet::goal(s, j, k)];
     let found = layer(mask, w, h, goals[k], base);
     store(&found, w, h, 1024 * k, table);

@@ -53,7 +53,7 @@ fn finish(
     requires { ⌜ Ready (now s) i j (now mask) (now records) × Goals (now s) j (now goals) × Turned (now s) j (now turned) × Chained (now records) (i .0) (now heads) (now work) × (roomFor (now s) (now records) ≤ length (now work)) × Early (now s) i j (now records) from ⌝ }
     ensures { λ r. ⌜ LeastTime (read (now (s .entry))) i j (constraintsOf (now (records .entry))) r × (r ≤ read (now (s .entry)) .horizon → Backed (now (s .entry)) i j (now (records .entry)) (now (heads .entry)) r 0 (now (work .exit))) ⌝ }
 {
-    let horizon = sheet::byte_at(s, 3);
+    let horizon = sheet::horizon(s);
     if horizon < from {
         return from;
     }
@@ -101,7 +101,7 @@ pub fn least(
         from,
         work,
     );
-    if sheet::byte_at(s, 3) < end {
+    if sheet::horizon(s) < end {
         return PathAnswer::NoPath;
     }
     trace::trace(s, i, j, mask, &goals, records, &heads, work, end, out);

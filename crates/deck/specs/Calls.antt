@@ -64,9 +64,12 @@ planWords d = d .count * suc (d .horizon)
 abbrev pub overwrite : List ℕ → List ℕ → List ℕ
 overwrite ws out = ws ++ drop (length ws) out
 
--- THE SHEET READER. Cause 1 to 7, or the header and the directory's pairs; a pair past the last is 0
-abbrev pub fourteen : List ℕ → List ℕ
-fourteen l = l ++ replicate (14 - length l) 0
+-- THE SHEET READER. Cause 1 to 7, or the header and the directory's pairs: as many as 12 tasks have, 0 past the last
+abbrev pub mostPairs : ℕ
+mostPairs = pairsFor 12
+
+abbrev pub pairList : List ℕ → List ℕ
+pairList l = l ++ replicate (mostPairs - length l) 0
 
 unfoldable pub readingFor : ℕ → List ℕ → Reading
 readingFor zero s =
@@ -77,11 +80,11 @@ readingFor zero s =
       count = countOf s;
       horizon = horizonOf s;
       limit = limitOf s;
-      offsets = fourteen (map (λ k. pairAt s k .offset) (below (pairsFor (countOf s))));
-      lengths = fourteen (map (λ k. pairAt s k .size) (below (pairsFor (countOf s))));
+      offsets = pairList (map (λ k. pairAt s k .offset) (below (pairsFor (countOf s))));
+      lengths = pairList (map (λ k. pairAt s k .size) (below (pairsFor (countOf s))));
     }
 readingFor (suc c) s =
-    record { cause = suc c; width = 0; height = 0; count = 0; horizon = 0; limit = 0; offsets = fourteen []; lengths = fourteen [] }
+    record { cause = suc c; width = 0; height = 0; count = 0; horizon = 0; limit = 0; offsets = pairList []; lengths = pairList [] }
 
 unfoldable pub readCall : List ℕ → Reading
 readCall s = readingFor (cause s) s

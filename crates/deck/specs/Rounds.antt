@@ -5,7 +5,7 @@ use mathlib.Core.Path.{_≡_}
 use mathlib.Core.List.{List, [], _∷_, _++_, map}
 use lib.ListN.{length, replicate}
 use Rattle.deck.specs.Lists.{below, each, flat}
-use Rattle.deck.specs.Sheet.{read, carrier, task, cause}
+use Rattle.deck.specs.Sheet.{read, carrier, task, endOfPairs, cause}
 use Rattle.deck.specs.Calls.{taskList, noTasks, workspaceFor, planWords, goalsCall, pathCause, pathAnswerFor, pathOutputFor, assignmentCause, leastFor, assignmentKind, assignmentTasks, collisionCall, searchAnswer, searchOutput, checkCall}
 use Rattle.deck.specs.Numbers.{pathNumbers, assignmentNumbers, collisionNumbers, searchNumbers, checkNumbers}
 use Rattle.deck.specs.Listing.{listing}
@@ -70,7 +70,7 @@ abbrev pub sheetOn : (grid : List ℕ) (w h horizon limit : ℕ) (starts : List 
 sheetOn grid w h horizon limit starts tasks =
     let parts : List (List ℕ) = grid ∷ each bytesOf starts ∷ map (each bytesOf) tasks in
     (w ∷ h ∷ length starts ∷ horizon ∷ []) ++ bytesOf limit ++ (0 ∷ 0 ∷ [])
-    ++ directory (8 + 4 * length parts) parts ++ flat parts
+    ++ directory (endOfPairs (length parts)) parts ++ flat parts
 
 -- a sheet whose places are all free
 abbrev pub sheet : (w h horizon limit : ℕ) (starts : List ℕ) (tasks : List (List ℕ)) → List ℕ

@@ -134,9 +134,12 @@ goodHeader s =
     within 1 32 (widthOf s) && within 1 32 (heightOf s) && within 1 12 (countOf s) && within 0 255 (horizonOf s)
     && within 1 4096 (limitOf s) && eqb (byteAt s 6) 0 && eqb (byteAt s 7) 0
 
--- where the directory ends and the first stretch begins: "The first offset is 8 + 4 × (m + 2)"
+-- where a directory of n pairs ends and the first stretch begins: "The first offset is 8 + 4 × (m + 2)"
+abbrev pub endOfPairs : ℕ → ℕ
+endOfPairs n = 8 + 4 * n
+
 abbrev pub directoryEnd : List ℕ → ℕ
-directoryEnd s = 8 + 4 * pairsFor (countOf s)
+directoryEnd s = endOfPairs (pairsFor (countOf s))
 
 -- of the n pairs from pair k on: the first has the offset o, "each next is the previous offset plus length; the last ends at
 -- the sheet's end". The offsets then rise, as no length is 0

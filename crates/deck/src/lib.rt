@@ -44,6 +44,9 @@ pub enum Collision {
     },
 }
 
+// How many pairs a directory has at most: that of 12 tasks.
+pub const MOST_PAIRS: usize = 14;
+
 // What the sheet reader answers: the cause, 0 for an accepted sheet, with the header and the directory's pairs by value.
 pub struct Reading {
     pub cause: u8,
@@ -52,8 +55,8 @@ pub struct Reading {
     pub count: usize,
     pub horizon: usize,
     pub limit: usize,
-    pub offsets: [usize; 14],
-    pub lengths: [usize; 14],
+    pub offsets: [usize; MOST_PAIRS],
+    pub lengths: [usize; MOST_PAIRS],
 }
 
 // What the single-path call answers: the finish of the path that was written, none, or a cause.

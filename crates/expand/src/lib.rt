@@ -51,8 +51,8 @@ fn root_path(
     ensures begun { λ _. ⌜ ((a : List ℕ) (st : State (List ℕ) Constraint) → Begun (read (now (s .entry))) (now (work .entry)) n a (i .0) st → Begun (read (now (s .entry))) (now (work .exit)) n a (i .0 + 1) st) ⌝ }
     ensures same { λ _. ⌜ Same (read (now (s .entry))) (now (work .entry)) (now (work .exit)) n ⌝ }
 {
-    let w = sheet::byte_at(s, 0);
-    let last = sheet::byte_at(s, 3);
+    let w = sheet::width(s);
+    let last = sheet::horizon(s);
     let j = records::task_of(work, n, i);
     let bound = wide(tables::entry(t, i, j));
     let mut path = [0u16; 256];
@@ -89,11 +89,11 @@ pub fn complete_root(
     ensures held { λ _. ⌜ ((a : List ℕ) (st : State (List ℕ) Constraint) → Begun (read (now (s .entry))) (now (work .entry)) made a 0 st → Held (read (now (s .entry))) (now (work .exit)) (made + 1) (made + 1) (added (rootOf (problem (read (now (s .entry)))) a ∷ []) st)) ⌝ }
     ensures same { λ _. ⌜ Same (read (now (s .entry))) (now (work .entry)) (now (work .exit)) made ⌝ }
 {
-    let m = sheet::byte_at(s, 2);
+    let m = sheet::count(s);
     for i in 0..m {
         root_path(s, mask, t, work, spare, made, Carrier(i), bounds);
     }
-    nodes::open_root(work, sheet::word_at(s, 4), made);
+    nodes::open_root(work, sheet::limit(s), made);
 }
 
 // Where node n is a root, makes the root of the next assignment, where one remains.
@@ -115,11 +115,11 @@ fn next_root(
     if !records::is_root(work, n) {
         return Grown::Made { made, latest };
     }
-    let m = sheet::byte_at(s, 2);
+    let m = sheet::count(s);
     let Choice::Slot { n: from, j } = roots::next_slot(work, m, latest) else {
         return Grown::Made { made, latest };
     };
-    if made == sheet::word_at(s, 4) {
+    if made == sheet::limit(s) {
         return Grown::Spent;
     }
     roots::next_root(work, m, t, latest, made, from, j);
@@ -197,9 +197,9 @@ fn make_child(
     ensures grew { λ r. ⌜ ((st : State (List ℕ) Constraint) (bound : ℕ) → Held (read (now (s .entry))) (now (work .entry)) made latest st → Grew (read (now (s .entry))) (now (work .exit)) bound r (makeChild (problem (read (now (s .entry)))) (read (now (s .entry)) .limit) bound (nodeAt (read (now (s .entry))) (now (work .entry)) n) (child .constraint) st)) ⌝ }
     ensures same { λ _. ⌜ Same (read (now (s .entry))) (now (work .entry)) (now (work .exit)) made ⌝ }
 {
-    let w = sheet::byte_at(s, 0);
-    let last = sheet::byte_at(s, 3);
-    let limit = sheet::word_at(s, 4);
+    let w = sheet::width(s);
+    let last = sheet::horizon(s);
+    let limit = sheet::limit(s);
     let mut path = [0u16; 256];
     let PathAnswer::Found(finish) = child_path(
         s,

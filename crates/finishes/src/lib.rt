@@ -37,8 +37,8 @@ fn starts_of(s: &[u8]) -> [usize; 12]
     requires { ⌜ cause (now s) ≡ 0 ⌝ }
     ensures { λ r. ⌜ Starts (now (s .entry)) r ⌝ }
 {
-    let w = sheet::byte_at(s, 0);
-    let m = sheet::byte_at(s, 2);
+    let w = sheet::width(s);
+    let m = sheet::count(s);
     let mut starts = [0usize; 12];
     for i in 0..m {
         starts[i] = bars::pad(w, sheet::start(s, Carrier(i)));
@@ -118,7 +118,7 @@ fn first_layer(s: &[u8], j: Task, goals: &[usize; 8]) -> [u8; 1156]
     requires { ⌜ (cause (now s) ≡ 0) × (j .0 < countOf (now s)) × Turned (now s) j (now goals) ⌝ }
     ensures { λ r. ⌜ Holds (read (now (s .entry))) r (steps (read (now (s .entry))) j 0) ⌝ }
 {
-    let w = sheet::byte_at(s, 0);
+    let w = sheet::width(s);
     let goal = bars::pad(w, sheet::last_goal(s, j));
     let none = [0u16; 1];
     let heads = [0u16; 256];
@@ -148,8 +148,8 @@ fn next_layer(
     requires { ⌜ (cause (now s) ≡ 0) × (j .0 < countOf (now s)) × MaskOf (read (now s)) (now mask) × Turned (now s) j (now goals) × (length (now dst) ≡ 1156) ⌝ }
     ensures { λ _. ⌜ ((k : ℕ) → Holds (read (now (s .entry))) (now (src .entry)) (steps (read (now (s .entry))) j k) → Margin (read (now (s .entry)) .width) (read (now (s .entry)) .height) (now (dst .entry)) → Holds (read (now (s .entry))) (now (dst .exit)) (steps (read (now (s .entry))) j (suc k))) ⌝ }
 {
-    let w = sheet::byte_at(s, 0);
-    let h = sheet::byte_at(s, 1);
+    let w = sheet::width(s);
+    let h = sheet::height(s);
     let n = sheet::goal_count(s, j);
     let none = [0u16; 1];
     let heads = [0u16; 256];
@@ -189,10 +189,10 @@ fn ends(
     ensures { λ r. ⌜ (r ≡ true → Whole (read (now (s .entry))) j (now (column .exit))) × (r ≡ false → Passing (now (s .entry)) j (k + 1) (now (dst .exit)) (now (src .entry)) (now (column .exit))) × (length (now (column .exit)) ≡ 12) ⌝ }
 {
     let n = sheet::goal_count(s, j);
-    if mark(src, starts, sheet::byte_at(s, 2), n, k, column) {
+    if mark(src, starts, sheet::count(s), n, k, column) {
         return true;
     }
-    if k == sheet::byte_at(s, 3) {
+    if k == sheet::horizon(s) {
         return true;
     }
     next_layer(s, j, mask, goals, src, dst);
@@ -237,7 +237,7 @@ pub fn table(s: &[u8], mask: &[u8; 1156]) -> [u16; 144]
     requires { ⌜ (cause (now s) ≡ 0) × MaskOf (read (now s)) (now mask) ⌝ }
     ensures { λ r. ⌜ copied (countOf (now (s .entry))) r ≡ tableOf (read (now (s .entry))) ⌝ }
 {
-    let m = sheet::byte_at(s, 2);
+    let m = sheet::count(s);
     let starts = starts_of(s);
     let mut t = [BARRED; 144];
     for j in 0..m {

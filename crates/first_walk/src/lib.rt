@@ -297,8 +297,8 @@ pub fn first_walk(
     requires { ⌜ Ready (now s) i j (now mask) (now records) × Goals (now s) j (now goals) × Chained (now records) (i .0) (now heads) (now links) × Low (read (now s)) j (now table) × (length (now table) ≡ 9216) × (end ≤ read (now s) .horizon) × (suc (read (now s) .horizon) ≤ length (now out)) ⌝ }
     ensures { λ r. ⌜ Walked (read (now (s .entry))) i j (constraintsOf (now (records .entry))) end (now (out .entry)) (now (out .exit)) r ⌝ }
 {
-    let w = sheet::byte_at(s, 0);
-    let horizon = sheet::byte_at(s, 3);
+    let w = sheet::width(s);
+    let horizon = sheet::horizon(s);
     let n = sheet::goal_count(s, j);
     let last = sheet::last_goal(s, j);
     let u = sheet::start(s, i);

@@ -8,7 +8,7 @@ use native.Mathlib.Omega.{arith}
 use lib.ListN.{length, getD, drop, replicate, length-replicate, getD-replicate, List·getD-eq-default}
 use lib.Seq.{getD-take, getD-drop}
 use borrow.Author.Tests.{lt-ltb}
-use Rattle.deck.specs.Sheet.{Sheet, read, area, cause, wordAt, gridPair, gridStretch}
+use Rattle.deck.specs.Sheet.{Sheet, read, area, cause, gridPair, gridStretch}
 use Rattle.meaning.proofs.Accepted.{accepted, accepted-inside, directory-says}
 use Rattle.sheet.proofs.Accepted.{width-range, height-range}
 use Rattle.kernel.proofs.Choice.{lt-or-ge}
@@ -26,7 +26,7 @@ module _ (s : List ℕ) (ok : cause s ≡ 0) where
 
   -- where the grid begins
   abbrev o : ℕ
-  o = wordAt s 8
+  o = gridStretch s .offset
 
   grid-size : gridStretch s .size ≡ area d
   grid-size = directory-says s .fact (accepted s ok .directory) .0 .0 .1

@@ -28,9 +28,9 @@ pub fn mask_of(s: &[u8]) -> [u8; 1156]
     requires { ⌜ cause (now s) ≡ 0 ⌝ }
     ensures { λ r. ⌜ MaskOf (read (now (s .entry))) r ⌝ }
 {
-    let w = sheet::byte_at(s, 0);
-    let h = sheet::byte_at(s, 1);
-    let grid = sheet::word_at(s, 8);
+    let w = sheet::width(s);
+    let h = sheet::height(s);
+    let grid = sheet::grid_offset(s);
     let mut mask = [0u8; 1156];
     for y in 0..h {
         mask_row(s, grid + y * w, y * (w + 2) + w + 3, w, &mut mask);

@@ -27,7 +27,7 @@ pub fn goals_of(s: &[u8], j: Task) -> [usize; 8]
     requires { ⌜ cause (now s) ≡ 0 ⌝ }
     ensures { λ r. ⌜ Goals (now (s .entry)) j r ⌝ }
 {
-    let w = sheet::byte_at(s, 0);
+    let w = sheet::width(s);
     let n = sheet::goal_count(s, j);
     let mut goals = [0usize; 8];
     for k in 0..n {
@@ -75,9 +75,9 @@ pub fn forward(
     requires { ⌜ Ready (now s) i j (now mask) (now records) × Chained (now records) (i .0) (now heads) (now links) × Goals (now s) j (now goals) × Early (now s) i j (now records) from ⌝ }
     ensures { λ r. ⌜ LeastTime (read (now (s .entry))) i j (constraintsOf (now (records .entry))) r ⌝ }
 {
-    let w = sheet::byte_at(s, 0);
-    let h = sheet::byte_at(s, 1);
-    let horizon = sheet::byte_at(s, 3);
+    let w = sheet::width(s);
+    let h = sheet::height(s);
+    let horizon = sheet::horizon(s);
     let n = sheet::goal_count(s, j);
     let goal = bars::pad(w, sheet::last_goal(s, j));
     let start = bars::pad(w, sheet::start(s, i));
@@ -151,8 +151,8 @@ fn back_step(
     requires { ⌜ Ready (now s) i j (now mask) (now records) × Turned (now s) j (now goals) × (t < end) × (end ≤ read (now s) .horizon) × Holds (read (now s)) (now src) (hind (read (now s)) i j (constraintsOf (now records)) (end - (t + 1)) (t + 1)) × Margin (read (now s) .width) (read (now s) .height) (now dst) × Backed (now s) i j (now records) (now heads) end (t + 1) (now work) ⌝ }
     ensures { λ _. ⌜ Holds (read (now (s .entry))) (now (dst .exit)) (hind (read (now (s .entry))) i j (constraintsOf (now (records .entry))) (end - t) t) × Backed (now (s .entry)) i j (now (records .entry)) (now (heads .entry)) end t (now (work .exit)) ⌝ }
 {
-    let w = sheet::byte_at(s, 0);
-    let h = sheet::byte_at(s, 1);
+    let w = sheet::width(s);
+    let h = sheet::height(s);
     let n = sheet::goal_count(s, j);
     layers::step(
         mask,
@@ -190,8 +190,8 @@ pub fn backward(
     requires { ⌜ Ready (now s) i j (now mask) (now records) × Turned (now s) j (now goals) × (end ≤ read (now s) .horizon) × Chained (now records) (i .0) (now heads) (now work) × (roomFor (now s) (now records) ≤ length (now work)) ⌝ }
     ensures { λ r. ⌜ (r ≡ ltb (length (goalsOf (read (now (s .entry))) j)) (hind (read (now (s .entry))) i j (constraintsOf (now (records .entry))) end 0 (startOf (read (now (s .entry))) i))) × Backed (now (s .entry)) i j (now (records .entry)) (now (heads .entry)) end 0 (now (work .exit)) ⌝ }
 {
-    let w = sheet::byte_at(s, 0);
-    let h = sheet::byte_at(s, 1);
+    let w = sheet::width(s);
+    let h = sheet::height(s);
     let n = sheet::goal_count(s, j);
     let goal = bars::pad(w, sheet::last_goal(s, j));
     let start = bars::pad(w, sheet::start(s, i));

@@ -28,14 +28,14 @@ fn good_tail(s: &[u8], kind: usize, v: usize, t: usize) -> bool
     requires { ⌜ cause (now s) ≡ 0 ⌝ }
     ensures { λ r. ⌜ r ≡ goodTail (read (now (s .entry))) kind v t ⌝ }
 {
-    let horizon = sheet::byte_at(s, 3);
+    let horizon = sheet::horizon(s);
     if kind == 0 {
         if v != 0 {
             return false;
         }
         return t <= horizon;
     }
-    if sheet::byte_at(s, 0) * sheet::byte_at(s, 1) <= v {
+    if sheet::area(s) <= v {
         return false;
     }
     t < horizon
@@ -50,10 +50,10 @@ fn good_record(s: &[u8], records: &[u16], k: usize) -> bool
     if 1 < kind {
         return false;
     }
-    if sheet::byte_at(s, 2) <= word(records, k, 1) {
+    if sheet::count(s) <= word(records, k, 1) {
         return false;
     }
-    if sheet::byte_at(s, 0) * sheet::byte_at(s, 1) <= word(records, k, 2) {
+    if sheet::area(s) <= word(records, k, 2) {
         return false;
     }
     good_tail(s, kind, word(records, k, 3), word(records, k, 4))
@@ -87,7 +87,7 @@ pub fn refusal(s: &[u8], i: Carrier, j: Task, work: usize, out: usize, records: 
     if c != 0 {
         return c;
     }
-    let m = sheet::byte_at(s, 2);
+    let m = sheet::count(s);
     if m <= i.0 {
         return causes::BAD_NUMBER;
     }
@@ -98,7 +98,7 @@ pub fn refusal(s: &[u8], i: Carrier, j: Task, work: usize, out: usize, records: 
         return causes::BAD_RECORDS;
     }
     let room = sheet::workspace(s);
-    let words = sheet::byte_at(s, 3) + 1;
+    let words = sheet::horizon(s) + 1;
     if work < room {
         return causes::SHORT_WORKSPACE;
     }

@@ -34,7 +34,7 @@ pub extern "C" fn planner_task_goals(s: &[u8], j: usize, numbers: &mut [usize; 2
         *numbers = [0, 0];
         return;
     }
-    if sheet::byte_at(s, sheet_parts::COUNT) <= j {
+    if sheet::count(s) <= j {
         *numbers = [0, 0];
         return;
     }

@@ -31,7 +31,7 @@ fn starts_of(s: &[u8]) -> [u16; 12]
     requires { ⌜ cause (now s) ≡ 0 ⌝ }
     ensures { λ r. ⌜ StartsOf (read (now (s .entry))) r ⌝ }
 {
-    let m = sheet::byte_at(s, 2);
+    let m = sheet::count(s);
     let mut starts = [0u16; 12];
     for i in 0..m {
         starts[i] = narrow(sheet::start(s, Carrier(i)));
@@ -44,7 +44,7 @@ fn bounds_of(s: &[u8], mask: &[u8; 1156], table: &mut [u8])
     requires { ⌜ (cause (now s) ≡ 0) × MaskOf (read (now s)) (now mask) × (length (now table) ≡ 110592) ⌝ }
     ensures { λ _. ⌜ Bounded (read (now (s .entry))) (now (table .exit)) ⌝ }
 {
-    let m = sheet::byte_at(s, 2);
+    let m = sheet::count(s);
     for j in 0..m {
         bounds::bounds(s, Task(j), mask, &mut table[9216 * j..9216 * j + 9216]);
     }
@@ -70,9 +70,9 @@ fn answered(s: &[u8], starts: &[u16; 12], work: &[u32], end: End, out: &mut [u16
 {
     match end {
         End::Plan { n, cost, made } => {
-            let w = sheet::byte_at(s, 0);
-            let m = sheet::byte_at(s, 2);
-            let last = sheet::byte_at(s, 3);
+            let w = sheet::width(s);
+            let m = sheet::count(s);
+            let last = sheet::horizon(s);
             nodes::write_paths(work, n, starts, w, last, m, out);
             SearchAnswer {
                 kind: SearchKind::Plan,
@@ -83,7 +83,7 @@ fn answered(s: &[u8], starts: &[u16; 12], work: &[u32], end: End, out: &mut [u16
             }
         }
         End::NoPlan(made) => without(SearchKind::NoPlan, made, 0),
-        End::Spent(bound) => without(SearchKind::Spent, sheet::word_at(s, 4), bound),
+        End::Spent(bound) => without(SearchKind::Spent, sheet::limit(s), bound),
     }
 }
 
@@ -103,7 +103,7 @@ fn planned(
     requires { ⌜ ((a : List ℕ) × (leastAssignment (countOf (now s)) (tableOf (read (now s))) ≡ some a) × (tasks ≡ taskList a)) ⌝ }
     ensures { λ r. ⌜ (r ≡ searchFound (planFor (read (now (s .entry))))) × (now (out .exit) ≡ searchWritten (planFor (read (now (s .entry)))) (now (out .entry))) ⌝ }
 {
-    roots::first_root(work, sheet::byte_at(s, 2), t, tasks);
+    roots::first_root(work, sheet::count(s), t, tasks);
     expand::complete_root(s, mask, t, work, spare, 0, bounds);
     let end = turns::run(s, mask, starts, t, work, spare, bounds);
     answered(s, starts, work, end, out)
@@ -117,7 +117,7 @@ pub fn accepted(s: &[u8], work: &mut [u32], out: &mut [u16]) -> SearchAnswer
     let mask = mask::mask_of(s);
     let starts = starts_of(s);
     let t = finishes::table(s, &mask);
-    let first = candidates::first(sheet::byte_at(s, 2), &t);
+    let first = candidates::first(sheet::count(s), &t);
     if !first.found {
         return without(SearchKind::NoPlan, 0, 0);
     }

@@ -9,7 +9,7 @@ use lib.Dec.{T, eqb, leb}
 use lib.ListN.{length, getD, length-append, List·getD-append}
 use borrow.Author.Tests.{le-leb}
 use Rattle.deck.specs.Lists.{below, all}
-use Rattle.deck.specs.Sheet.{byteAt, countOf, pairAt, pairsFor, taskStretch, task, read, directoryEnd, chained, goalsSize, goodHeader, goodDirectory, unless, _orElse_, cause}
+use Rattle.deck.specs.Sheet.{byteAt, countOf, pairAt, gridPair, startsPair, taskPair, pairsFor, gridStretch, startsStretch, taskStretch, task, read, directoryEnd, chained, goalsSize, goodHeader, goodDirectory, unless, _orElse_, cause}
 use Rattle.deck.specs.Calls.{searchCause, searchAnswerFor, searchOutputFor, searchAnswer, searchOutput}
 use Rattle.deck.specs.Listing.{decimal, text, listingFor, listing}
 use Rattle.meaning.proofs.Tests.{Says, says-eqb, says-leb, says-and}
@@ -39,23 +39,23 @@ module _ (s : List ℕ) where
       let r = chained-most n (suc k) (o + pairAt s k .size) (λ i a b. h i (omega arith) (omega arith)) (says-chained n k o t .1) in
       omega (arith, h k (omega arith) (omega arith))
 
-  task-most : T (all (λ j. goalsSize (taskStretch s (task j) .size)) (below (countOf s))) → (i : ℕ) → 2 ≤ i → i < 2 + countOf s → pairAt s i .size ≤ 16
+  task-most : T (all (λ j. goalsSize (taskStretch s (task j) .size)) (below (countOf s))) → (i : ℕ) → taskPair 0 ≤ i → i < taskPair (countOf s) → pairAt s i .size ≤ 16
   task-most t i a b =
-      let j : ℕ = i - 2 in
-      let e : 2 + j ≡ i = omega arith in
+      let j : ℕ = i - taskPair 0 in
+      let e : taskPair j ≡ i = omega arith in
       let sized : ℕ → Bool = λ k. goalsSize (taskStretch s (task k) .size) in
       let at = says-all-at sized (λ k. T (sized k)) (λ k. says-itself) 0 (below (countOf s)) .fact t j (omega (arith, length-below (countOf s))) in
-      let size : T (goalsSize (pairAt s (2 + j) .size)) = rw (below-at (countOf s) j (omega arith)) at at in
-      subst (λ k. pairAt s k .size ≤ 16) e (goals-most (pairAt s (2 + j) .size) size)
+      let size : T (goalsSize (taskStretch s (task j) .size)) = rw (below-at (countOf s) j (omega arith)) at at in
+      subst (λ k. pairAt s k .size ≤ 16) e (goals-most (taskStretch s (task j) .size) size)
 
   at-most-longest : T (goodHeader s) → T (goodDirectory s) → length s ≤ longest
   at-most-longest header directory =
       let h = header-says s .fact header in
       let d = directory-says s .fact directory in
       let e : pairsFor (countOf s) ≡ suc (suc (countOf s)) = omega arith in
-      let grid = says-chained (suc (countOf s)) 0 (directoryEnd s) (subst (λ n. T (chained s n 0 (directoryEnd s))) e (d .0 .0 .0 .1)) .1 in
-      let starts = says-chained (countOf s) 1 (directoryEnd s + pairAt s 0 .size) grid .1 in
-      let most = chained-most (countOf s) 2 (directoryEnd s + pairAt s 0 .size + pairAt s 1 .size) (task-most (d .1)) starts in
+      let grid = says-chained (suc (countOf s)) gridPair (directoryEnd s) (subst (λ n. T (chained s n gridPair (directoryEnd s))) e (d .0 .0 .0 .1)) .1 in
+      let starts = says-chained (countOf s) startsPair (directoryEnd s + gridStretch s .size) grid .1 in
+      let most = chained-most (countOf s) (taskPair 0) (directoryEnd s + gridStretch s .size + startsStretch s .size) (task-most (d .1)) starts in
       omega (arith, h .0 .0 .0 .0 .1 .1, d .0 .0 .1, d .0 .1, mul-le-mul (h .0 .0 .0 .0 .0 .0 .1) (h .0 .0 .0 .0 .0 .1 .1))
 
 -- THE CAUSE of a longer sheet is 2 or 3, by its header

@@ -3,12 +3,12 @@
 use Prim.Native.Nat.{ℕ, suc, _+_, _-_, _*_, _≤_, _<_}
 use mathlib.Core.Path.{_≡_, refl}
 use mathlib.Core.List.{List}
-use native.Mathlib.Nat.{mul-le-mul, mul-assoc}
+use native.Mathlib.Nat.{mul-le-mul}
 use native.Mathlib.Numerals.{add-one}
 use native.Mathlib.Omega.{arith}
 use lib.ListN.{length, take, drop, length-take, length-drop}
 use borrow.Rule.Slice.PartMut.{putMid, take-put}
-use Rattle.deck.specs.Sheet.{read, area, mostGoals, widthOf, heightOf, horizonOf, limitOf}
+use Rattle.deck.specs.Sheet.{read, area, mostGoals, horizonOf, limitOf}
 use Rattle.deck.specs.Calls.{workspaceFor}
 use Rattle.deck.specs.declared.Carrier.{Carrier}
 use Rattle.deck.specs.declared.Task.{Task}
@@ -17,9 +17,9 @@ use Rattle.passes.specs.Ready.{Ready, roomFor}
 use Rattle.passes.proofs.Given.{few-records}
 use Rattle.scratch.specs.Front.{Front}
 
--- three bytes, as the size of the layers is computed of them
-pub two-fit : {h w : ℕ} → h < 256 → w < 256 → (h + 1) * w < 65536
-two-fit {h} {w} a b = omega (arith, mul-le-mul {n₁ = h + 1} {m₁ = w} {n₂ = 256} {m₂ = 255} (omega arith) (omega arith))
+-- the size of the layers fits, of any bytes
+pub layers-fit : {h a : ℕ} → h < 256 → a < 65536 → (h + 1) * a < 16777216
+layers-fit {h} {a} l m = omega (arith, mul-le-mul {n₁ = h + 1} {m₁ = a} {n₂ = 256} {m₂ = 65535} (omega arith) (omega arith))
 
 -- the nodes' words are inside
 pub nodes-inside : (s : List ℕ) {limit work : ℕ} → limit ≡ limitOf s → workspaceFor (read s) ≤ work → 512 * limit + 4096 ≤ work
@@ -27,16 +27,16 @@ unfolding workspaceFor
 nodes-inside s e h = omega arith
 
 module _ (s : List ℕ) (i : Carrier) (j : Task) (mask rs : List ℕ) (r : Ready s i j mask rs) where
-  module _ {h a b : ℕ} (eh : h ≡ horizonOf s) (ea : a ≡ widthOf s) (eb : b ≡ heightOf s) where
+  module _ {h a : ℕ} (eh : h ≡ horizonOf s) (ea : a ≡ area (read s)) where
     -- the number of words of all layers, as the code computes it
-    layers-of : (h + 1) * a * b ≡ suc (read s .horizon) * area (read s)
-    layers-of = rw (eh, ea, eb, mul-assoc, add-one) refl
+    layers-of : (h + 1) * a ≡ suc (read s .horizon) * area (read s)
+    layers-of = rw (eh, ea, add-one) refl
 
-    pub spare-room : (h + 1) * a * b < 4096 → roomFor s rs ≤ 8192
+    pub spare-room : (h + 1) * a < 4096 → roomFor s rs ≤ 8192
     spare-room l = omega (arith, layers-of, few-records r)
 
     -- an accepted task has a goal, so that the workspace has the layers' words twice
-    pub tail-room : 4096 ≤ (h + 1) * a * b → {limit : ℕ} → limit ≡ limitOf s → (work : List ℕ) → workspaceFor (read s) ≤ length work
+    pub tail-room : 4096 ≤ (h + 1) * a → {limit : ℕ} → limit ≡ limitOf s → (work : List ℕ) → workspaceFor (read s) ≤ length work
         → roomFor s rs ≤ length (take (length work - (512 * limit + 4096)) (drop (512 * limit + 4096) work))
     unfolding workspaceFor
     tail-room l {limit} e work room =

@@ -44,11 +44,11 @@ fn by_passes(
     ensures written { λ _. ⌜ now (out .exit) ≡ pathWritten (leastPath (read (now (s .entry))) i j (constraintsOf (now (records .entry)))) (now (out .entry)) ⌝ }
     ensures front { λ _. ⌜ Front (read (now (s .entry)) .limit) (now (work .entry)) (now (work .exit)) ⌝ }
 {
-    let size = (sheet::byte_at(s, 3) + 1) * sheet::byte_at(s, 0) * sheet::byte_at(s, 1);
+    let size = (sheet::horizon(s) + 1) * sheet::area(s);
     if size < FEW {
         return by_passes::least(s, i, j, mask, bound, spare, out, records);
     }
-    let from = 512 * sheet::word_at(s, 4) + 4096;
+    let from = 512 * sheet::limit(s) + 4096;
     by_passes::least(s, i, j, mask, bound, &mut work[from..], out, records)
 }
 
@@ -68,7 +68,7 @@ fn by_walk(
     requires { ⌜ Ready (now s) i j (now mask) (now records) × NoEarlier (read (now s)) i j (constraintsOf (now records)) bound × (suc (read (now s) .horizon) ≤ length (now out)) × Bounded (read (now s)) (now bounds) ⌝ }
     ensures { λ r. ⌜ SoughtFor (read (now (s .entry))) i j (constraintsOf (now (records .entry))) (now (out .entry)) (now (out .exit)) r ⌝ }
 {
-    let horizon = sheet::byte_at(s, 3);
+    let horizon = sheet::horizon(s);
     let goals = passes::goals_of(s, j);
     let heads = bars::chains(records, i, links);
     let at = 9216 * j.0;

@@ -17,7 +17,7 @@ fn refusal(s: &[u8], work: usize, out: usize) -> u8
         return c;
     }
     let room = sheet::workspace(s);
-    let words = sheet::byte_at(s, 2) * (sheet::byte_at(s, 3) + 1);
+    let words = sheet::count(s) * (sheet::horizon(s) + 1);
     if work < room {
         return causes::SHORT_WORKSPACE;
     }

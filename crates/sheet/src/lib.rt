@@ -2,22 +2,16 @@
 // end reads 0, a stretch is cut off where the sheet ends, and a task from m on has no goals. What holds of an accepted sheet alone is
 // said as an implication.
 use deck::Carrier;
+use deck::MOST_PAIRS;
 use deck::Reading;
 use deck::Task;
-use sheet_parts::COUNT;
-use sheet_parts::HEIGHT;
-use sheet_parts::HORIZON;
-use sheet_parts::LIMIT;
+use sheet_parts::GRID;
 use sheet_parts::STARTS;
-use sheet_parts::TASKS;
-use sheet_parts::WIDTH;
 ghost use mathlib.Core.Path.{_≡_};
-ghost use Prim.Native.Nat.{_+_, _*_, _<_, _≤_, max};
-ghost use mathlib.Core.List.{map};
+ghost use Prim.Native.Nat.{_<_, _≤_, max};
 ghost use lib.ListN.{length, getD};
-ghost use Rattle.deck.specs.Lists.{below};
-ghost use Rattle.deck.specs.Sheet.{byteAt, wordAt, countOf, part, read, area, free, startOf, goalsOf, lastGoal, mostGoals, cause};
-ghost use Rattle.deck.specs.Calls.{fourteen, workspaceFor, readCall, goalsCall};
+ghost use Rattle.deck.specs.Sheet.{widthOf, heightOf, countOf, horizonOf, limitOf, part, gridStretch, read, area, free, startOf, goalsOf, lastGoal, mostGoals, cause};
+ghost use Rattle.deck.specs.Calls.{workspaceFor, readCall, goalsCall};
 ghost use Rattle.sheet_parts.specs.Part.{BeginsAt};
 
 // The first cause that lies in the sheet itself, 1 to 7, and 0 for an accepted sheet.
@@ -27,16 +21,28 @@ pub fn cause(s: &[u8]) -> u8
     sheet_causes::cause(s)
 }
 
-// The words at first, first + 4, first + 8 and so on, n of them: one side of the directory's pairs. The rest is 0.
-fn every_fourth(s: &[u8], first: usize, n: usize) -> [usize; 14]
-    requires { ⌜ (first < 16) × (n ≤ 14) ⌝ }
-    ensures { λ r. ⌜ r ≡ fourteen (map (λ k. wordAt (now (s .entry)) (first + 4 * k)) (below n)) ⌝ }
+// Of an accepted sheet the header and the directory's pairs; past the last pair the arrays hold 0.
+fn read_accepted(s: &[u8]) -> Reading
+    requires { ⌜ cause (now s) ≡ 0 ⌝ }
+    ensures { λ r. ⌜ r ≡ readCall (now (s .entry)) ⌝ }
 {
-    let mut words = [0usize; 14];
+    let n = sheet_parts::pairs(s);
+    let mut offsets = [0usize; MOST_PAIRS];
+    let mut lengths = [0usize; MOST_PAIRS];
     for k in 0..n {
-        words[k] = word_at(s, first + 4 * k);
+        offsets[k] = sheet_parts::pair_offset(s, k);
+        lengths[k] = sheet_parts::pair_size(s, k);
     }
-    words
+    Reading {
+        cause: 0,
+        width: width(s),
+        height: height(s),
+        count: count(s),
+        horizon: horizon(s),
+        limit: limit(s),
+        offsets,
+        lengths,
+    }
 }
 
 // The sheet reader: the cause and zeros, or 0 with the header and the directory's pairs.
@@ -45,7 +51,7 @@ pub fn read(s: &[u8]) -> Reading
 {
     let c = cause(s);
     if c != 0 {
-        let zeros = [0usize; 14];
+        let zeros = [0usize; MOST_PAIRS];
         return Reading {
             cause: c,
             width: 0,
@@ -57,19 +63,7 @@ pub fn read(s: &[u8]) -> Reading
             lengths: zeros,
         };
     }
-    let pairs = byte_at(s, COUNT) + TASKS;
-    let offsets = every_fourth(s, 8, pairs);
-    let lengths = every_fourth(s, 10, pairs);
-    Reading {
-        cause: 0,
-        width: byte_at(s, WIDTH),
-        height: byte_at(s, HEIGHT),
-        count: byte_at(s, COUNT),
-        horizon: byte_at(s, HORIZON),
-        limit: word_at(s, LIMIT),
-        offsets,
-        lengths,
-    }
+    read_accepted(s)
 }
 
 // A task's goals: that stretch of the sheet itself; on any cause, 1 to 8, the empty stretch at the sheet's start.
@@ -84,20 +78,56 @@ pub fn task_goals<'a>(s: &'a [u8], j: Task) -> &'a [u8]
     }
 }
 
-// The byte k.
-pub fn byte_at(s: &[u8], k: usize) -> usize
-    ensures { λ r. ⌜ r ≡ byteAt (now (s .entry)) k ⌝ }
+// The header: w, h, m, H and N.
+pub fn width(s: &[u8]) -> usize
+    ensures { λ r. ⌜ r ≡ widthOf (now (s .entry)) ⌝ }
     ensures { λ r. ⌜ r < 256 ⌝ }
 {
-    sheet_parts::byte_at(s, k)
+    sheet_parts::width(s)
 }
 
-// The two-byte value at k, low byte first.
-pub fn word_at(s: &[u8], k: usize) -> usize
-    ensures { λ r. ⌜ r ≡ wordAt (now (s .entry)) k ⌝ }
+pub fn height(s: &[u8]) -> usize
+    ensures { λ r. ⌜ r ≡ heightOf (now (s .entry)) ⌝ }
+    ensures { λ r. ⌜ r < 256 ⌝ }
+{
+    sheet_parts::height(s)
+}
+
+pub fn count(s: &[u8]) -> usize
+    ensures { λ r. ⌜ r ≡ countOf (now (s .entry)) ⌝ }
+    ensures { λ r. ⌜ r < 256 ⌝ }
+{
+    sheet_parts::count(s)
+}
+
+pub fn horizon(s: &[u8]) -> usize
+    ensures { λ r. ⌜ r ≡ horizonOf (now (s .entry)) ⌝ }
+    ensures { λ r. ⌜ r < 256 ⌝ }
+{
+    sheet_parts::horizon(s)
+}
+
+pub fn limit(s: &[u8]) -> usize
+    ensures { λ r. ⌜ r ≡ limitOf (now (s .entry)) ⌝ }
     ensures { λ r. ⌜ r < 65536 ⌝ }
 {
-    sheet_parts::word_at(s, k)
+    sheet_parts::limit(s)
+}
+
+// How many places the grid has.
+pub fn area(s: &[u8]) -> usize
+    ensures { λ r. ⌜ r ≡ area (read (now (s .entry))) ⌝ }
+    ensures { λ r. ⌜ r < 65536 ⌝ }
+{
+    sheet_parts::area(s)
+}
+
+// Where the grid's bytes begin.
+pub fn grid_offset(s: &[u8]) -> usize
+    ensures { λ r. ⌜ r ≡ gridStretch (now (s .entry)) .offset ⌝ }
+    ensures { λ r. ⌜ r < 65536 ⌝ }
+{
+    sheet_parts::pair_offset(s, GRID)
 }
 
 // The grid byte of the place v, 0 past the grid. Of an accepted sheet: 0 free, 1 blocked.
@@ -163,7 +193,7 @@ fn most_goals(s: &[u8]) -> usize
     ensures { λ r. ⌜ r ≡ mostGoals (read (now (s .entry))) ⌝ }
     ensures { λ r. ⌜ r < 32768 ⌝ }
 {
-    let m = byte_at(s, COUNT);
+    let m = count(s);
     let mut most = 0;
     for j in 0..m {
         most = larger(most, sheet_parts::goals_number(s, Task(j)));
@@ -176,7 +206,7 @@ pub fn workspace(s: &[u8]) -> usize
     ensures { λ r. ⌜ r ≡ workspaceFor (read (now (s .entry))) ⌝ }
     ensures { λ r. ⌜ (cause (now (s .entry)) ≡ 0 → r < 8388608) ⌝ }
 {
-    let layers = byte_at(s, HORIZON) + 1;
+    let layers = horizon(s) + 1;
     let labels = most_goals(s) + 1;
-    512 * word_at(s, LIMIT) + layers * sheet_parts::area(s) * labels + 4096
+    512 * limit(s) + layers * area(s) * labels + 4096
 }

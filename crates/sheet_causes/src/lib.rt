@@ -1,22 +1,23 @@
 // The causes that lie in the sheet itself, one pass for each.
 use deck::Task;
 use deck::causes;
-use sheet_parts::COUNT;
 use sheet_parts::GRID;
-use sheet_parts::HEIGHT;
-use sheet_parts::LIMIT;
 use sheet_parts::STARTS;
 use sheet_parts::TASKS;
-use sheet_parts::WIDTH;
 use sheet_parts::area;
-use sheet_parts::byte_at;
+use sheet_parts::count;
+use sheet_parts::directory_end;
 use sheet_parts::free_place;
+use sheet_parts::height;
 use sheet_parts::last_word;
+use sheet_parts::limit;
 use sheet_parts::nth_word;
 use sheet_parts::pair_offset;
 use sheet_parts::pair_size;
+use sheet_parts::pairs;
 use sheet_parts::stretch;
 use sheet_parts::task_part;
+use sheet_parts::width;
 use sheet_parts::word_at;
 ghost use mathlib.Core.Path.{_≡_};
 ghost use Prim.Native.Nat.{_<_};
@@ -40,16 +41,16 @@ fn in_range(x: usize, low: usize, high: usize) -> bool
 fn header_good(s: &[u8]) -> bool
     ensures { λ r. ⌜ r ≡ goodHeader (now (s .entry)) ⌝ }
 {
-    if !in_range(byte_at(s, WIDTH), 1, 32) {
+    if !in_range(width(s), 1, 32) {
         return false;
     }
-    if !in_range(byte_at(s, HEIGHT), 1, 32) {
+    if !in_range(height(s), 1, 32) {
         return false;
     }
-    if !in_range(byte_at(s, COUNT), 1, 12) {
+    if !in_range(count(s), 1, 12) {
         return false;
     }
-    if !in_range(word_at(s, LIMIT), 1, 4096) {
+    if !in_range(limit(s), 1, 4096) {
         return false;
     }
     // Bytes 6 and 7 are zero.
@@ -60,9 +61,9 @@ fn header_good(s: &[u8]) -> bool
 fn pairs_chained(s: &[u8]) -> bool
     ensures { λ r. ⌜ r ≡ chained (now (s .entry)) (pairsFor (countOf (now (s .entry)))) 0 (directoryEnd (now (s .entry))) ⌝ }
 {
-    let pairs = byte_at(s, COUNT) + 2;
-    let mut at = 8 + 4 * pairs;
-    for k in 0..pairs {
+    let n = pairs(s);
+    let mut at = directory_end(s);
+    for k in 0..n {
         if pair_offset(s, k) != at {
             return false;
         }
@@ -84,7 +85,7 @@ fn size_good(n: usize) -> bool
 fn sizes_good(s: &[u8]) -> bool
     ensures { λ r. ⌜ r ≡ all (λ j. goalsSize (taskStretch (now (s .entry)) (task j) .size)) (below (countOf (now (s .entry)))) ⌝ }
 {
-    let m = byte_at(s, COUNT);
+    let m = count(s);
     for j in 0..m {
         if !size_good(pair_size(s, TASKS + j)) {
             return false;
@@ -97,8 +98,7 @@ fn sizes_good(s: &[u8]) -> bool
 fn directory_good(s: &[u8]) -> bool
     ensures { λ r. ⌜ r ≡ goodDirectory (now (s .entry)) ⌝ }
 {
-    let m = byte_at(s, COUNT);
-    if s.len() < 8 + 4 * (m + 2) {
+    if s.len() < directory_end(s) {
         return false;
     }
     if !pairs_chained(s) {
@@ -107,7 +107,7 @@ fn directory_good(s: &[u8]) -> bool
     if pair_size(s, GRID) != area(s) {
         return false;
     }
-    if pair_size(s, STARTS) != 2 * m {
+    if pair_size(s, STARTS) != 2 * count(s) {
         return false;
     }
     sizes_good(s)
@@ -162,7 +162,7 @@ fn compared_count(s: &[u8], places: Compared) -> usize
             let p = stretch(s, STARTS);
             p.len() / 2
         }
-        Compared::LastGoals => byte_at(s, COUNT),
+        Compared::LastGoals => count(s),
     }
 }
 
@@ -217,7 +217,7 @@ fn starts_good(s: &[u8]) -> bool
 fn goals_good(s: &[u8]) -> bool
     ensures { λ r. ⌜ r ≡ goodGoals (read (now (s .entry))) ⌝ }
 {
-    let m = byte_at(s, COUNT);
+    let m = count(s);
     for j in 0..m {
         if !places_free(s, task_part(s, Task(j))) {
             return false;

@@ -5,19 +5,19 @@ ghost use mathlib.Core.Path.{_≡_};
 ghost use Prim.Native.Nat.{_<_, _≤_, min};
 ghost use lib.ListN.{length, getD};
 ghost use Rattle.deck.specs.Lists.{last};
-ghost use Rattle.deck.specs.Sheet.{byteAt, wordAt, part, pairAt, words, read, area, free, goalsOf};
+ghost use Rattle.deck.specs.Sheet.{byteAt, wordAt, widthOf, heightOf, countOf, horizonOf, limitOf, part, pairAt, pairsFor, directoryEnd, words, read, area, free, goalsOf};
 ghost use Rattle.sheet_parts.specs.Part.{BeginsAt, taskPart};
 
 // Where the header's values stand: a byte each, and two for the node limit.
-pub const WIDTH: usize = 0;
+const WIDTH: usize = 0;
 
-pub const HEIGHT: usize = 1;
+const HEIGHT: usize = 1;
 
-pub const COUNT: usize = 2;
+const COUNT: usize = 2;
 
-pub const HORIZON: usize = 3;
+const HORIZON: usize = 3;
 
-pub const LIMIT: usize = 4;
+const LIMIT: usize = 4;
 
 // The directory's pairs: the grid, the starts, then the tasks.
 pub const GRID: usize = 0;
@@ -27,7 +27,7 @@ pub const STARTS: usize = 1;
 pub const TASKS: usize = 2;
 
 // The byte k.
-pub fn byte_at(s: &[u8], k: usize) -> usize
+fn byte_at(s: &[u8], k: usize) -> usize
     ensures { λ r. ⌜ r ≡ byteAt (now (s .entry)) k ⌝ }
     ensures { λ r. ⌜ r < 256 ⌝ }
 {
@@ -50,6 +50,57 @@ pub fn word_at(s: &[u8], k: usize) -> usize
     } else {
         0
     }
+}
+
+// The header: w, h, m, H and N.
+pub fn width(s: &[u8]) -> usize
+    ensures { λ r. ⌜ r ≡ widthOf (now (s .entry)) ⌝ }
+    ensures { λ r. ⌜ r < 256 ⌝ }
+{
+    byte_at(s, WIDTH)
+}
+
+pub fn height(s: &[u8]) -> usize
+    ensures { λ r. ⌜ r ≡ heightOf (now (s .entry)) ⌝ }
+    ensures { λ r. ⌜ r < 256 ⌝ }
+{
+    byte_at(s, HEIGHT)
+}
+
+pub fn count(s: &[u8]) -> usize
+    ensures { λ r. ⌜ r ≡ countOf (now (s .entry)) ⌝ }
+    ensures { λ r. ⌜ r < 256 ⌝ }
+{
+    byte_at(s, COUNT)
+}
+
+pub fn horizon(s: &[u8]) -> usize
+    ensures { λ r. ⌜ r ≡ horizonOf (now (s .entry)) ⌝ }
+    ensures { λ r. ⌜ r < 256 ⌝ }
+{
+    byte_at(s, HORIZON)
+}
+
+pub fn limit(s: &[u8]) -> usize
+    ensures { λ r. ⌜ r ≡ limitOf (now (s .entry)) ⌝ }
+    ensures { λ r. ⌜ r < 65536 ⌝ }
+{
+    word_at(s, LIMIT)
+}
+
+// How many pairs the directory has, and where it ends.
+pub fn pairs(s: &[u8]) -> usize
+    ensures { λ r. ⌜ r ≡ pairsFor (countOf (now (s .entry))) ⌝ }
+    ensures { λ r. ⌜ r < 512 ⌝ }
+{
+    count(s) + TASKS
+}
+
+pub fn directory_end(s: &[u8]) -> usize
+    ensures { λ r. ⌜ r ≡ directoryEnd (now (s .entry)) ⌝ }
+    ensures { λ r. ⌜ r < 4096 ⌝ }
+{
+    8 + 4 * pairs(s)
 }
 
 // The offset and the length of the pair k of the directory.
@@ -120,7 +171,7 @@ pub fn task_part<'a>(s: &'a [u8], j: Task) -> &'a [u8]
     ensures { λ r. ⌜ length (now r) < 65536 ⌝ }
 {
     let k = j.0;
-    if k < byte_at(s, COUNT) {
+    if k < count(s) {
         stretch(s, TASKS + k)
     } else {
         &s[0..0]
@@ -141,7 +192,7 @@ pub fn area(s: &[u8]) -> usize
     ensures { λ r. ⌜ r ≡ area (read (now (s .entry))) ⌝ }
     ensures { λ r. ⌜ r < 65536 ⌝ }
 {
-    byte_at(s, WIDTH) * byte_at(s, HEIGHT)
+    width(s) * height(s)
 }
 
 // The grid byte of the place v, 0 past the grid.

@@ -2,6 +2,7 @@
 // reader and the accessors hand back, in parts: the header, the directory's pairs, the starts, of each task the goals as bytes and as
 // places, the numbers of free and of blocked places, and the workspace. Of a refused sheet the parts are what a refusal hands back.
 use deck::Carrier;
+use deck::MOST_PAIRS;
 use deck::Reading;
 use deck::Task;
 use libc::STDIN_FILENO;
@@ -29,12 +30,12 @@ fn header(r: Reading) {
     put(r.limit);
 }
 
-// All 14 pairs: those past the last are zeros.
+// All pairs that there can be: those past the last are zeros.
 fn pairs(r: Reading) {
     part();
     let offsets = r.offsets;
     let lengths = r.lengths;
-    for k in 0..14 {
+    for k in 0..MOST_PAIRS {
         put(offsets[k]);
         put(lengths[k]);
     }
@@ -129,7 +130,7 @@ fn line(s: &[u8]) {
 fn lines(all: &[u8]) {
     let mut at = 0;
     while at + 2 <= all.len() {
-        let n = sheet::word_at(all, at);
+        let n = testing::number_at(all, at);
         let start = at + 2;
         if all.len() - start < n {
             return;

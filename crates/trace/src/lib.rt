@@ -97,8 +97,8 @@ fn next_place(
     requires { ⌜ Ready (now s) i j (now mask) (now records) × Backed (now s) i j (now records) (now heads) end 0 (now work) × (t < end) × (end ≤ read (now s) .horizon) × OnTime (read (now s)) i j (constraintsOf (now records)) (end - t) t u k ⌝ }
     ensures { λ r. ⌜ r ≡ firstOf (onward (read (now (s .entry))) i j (constraintsOf (now (records .entry))) (end - (t + 1)) t u k) (near (read (now (s .entry))) u) ⌝ }
 {
-    let w = sheet::byte_at(s, 0);
-    let h = sheet::byte_at(s, 1);
+    let w = sheet::width(s);
+    let h = sheet::height(s);
     let n = sheet::goal_count(s, j);
     let at = records.len() / 5 + (t + 1) * (((w + 2) * h + 3) / 4);
     let p = bars::pad(w, u);
@@ -149,8 +149,8 @@ pub fn trace(
     requires { ⌜ Ready (now s) i j (now mask) (now records) × Goals (now s) j (now goals) × Backed (now s) i j (now records) (now heads) end 0 (now work) × (end ≤ read (now s) .horizon) × LeastTime (read (now s)) i j (constraintsOf (now records)) end × (suc (read (now s) .horizon) ≤ length (now out)) ⌝ }
     ensures { λ _. ⌜ now (out .exit) ≡ overwrite (pathAt (read (now (s .entry))) i j (constraintsOf (now (records .entry))) (read (now (s .entry)) .horizon - end) end) (now (out .entry)) ⌝ }
 {
-    let w = sheet::byte_at(s, 0);
-    let horizon = sheet::byte_at(s, 3);
+    let w = sheet::width(s);
+    let horizon = sheet::horizon(s);
     let n = sheet::goal_count(s, j);
     let last = sheet::last_goal(s, j);
     let mut u = sheet::start(s, i);

@@ -89,9 +89,9 @@ fn collision_of(
     requires { ⌜ (cause (now s) ≡ 0) × StartsOf (read (now s)) (now starts) × (512 * n + 512 ≤ length (now work)) ⌝ }
     ensures { λ r. ⌜ r ≡ collisionFound (firstCollision (countOf (now (s .entry))) (read (now (s .entry)) .horizon) (nodeAt (read (now (s .entry))) (now (work .entry)) n .paths)) ⌝ }
 {
-    let w = sheet::byte_at(s, 0);
-    let m = sheet::byte_at(s, 2);
-    let last = sheet::byte_at(s, 3);
+    let w = sheet::width(s);
+    let m = sheet::count(s);
+    let last = sheet::horizon(s);
     nodes::write_paths(work, n, starts, w, last, m, paths);
     collision_scan::first_among(m, last, paths)
 }
@@ -159,7 +159,7 @@ fn turn(
     ensures turned { λ r. ⌜ ((st : State (List ℕ) Constraint) (k : ℕ) → Turning (read (now (s .entry))) (now (work .entry)) made latest k st → TurnedTo (read (now (s .entry))) (now (work .exit)) made r (turn (problem (read (now (s .entry)))) (read (now (s .entry)) .limit) cheapest st)) ⌝ }
     ensures lows { λ _. ⌜ Lows (read (now (s .entry)) .limit) (now (work .exit)) made (now (lows .exit)) ⌝ }
 {
-    let limit = sheet::word_at(s, 4);
+    let limit = sheet::limit(s);
     let Pick::Open { n, cost } = nodes::cheapest(work, limit, made, lows) else {
         return Turned::NoPlan;
     };
@@ -197,7 +197,7 @@ pub fn run(
     requires { ⌜ ((a : List ℕ) × (rest : List (List ℕ)) × (problem (read (now s)) .assignments ≡ a ∷ rest) × Held (read (now s)) (now work) 1 1 (record { opened = rootOf (problem (read (now s))) a ∷ []; made = 1; rest = rest })) ⌝ }
     ensures { λ r. ⌜ EndedWith (read (now (s .entry))) (now (work .exit)) r (planFor (read (now (s .entry)))) ⌝ }
 {
-    let limit = sheet::word_at(s, 4);
+    let limit = sheet::limit(s);
     let mut list = [0u16; 20480];
     let mut paths = [0u16; 3072];
     let mut lows = [65535u32; 64];

@@ -7,11 +7,11 @@ use Prim.Native.Nat.{_-_}
 use Rattle.bounds.proofs.last_two.Statement.{statement}
 use Rattle.bounds.proofs.last_two.Tie as tie
 
-byte-at-requires : tie.Need-byte-at-requires
-byte-at-requires c κs = search needs
+width-requires : tie.Need-width-requires
+width-requires c κs = search needs
 
-byte-at-requires-2 : tie.Need-byte-at-requires-2
-byte-at-requires-2 c κs = search needs
+height-requires : tie.Need-height-requires
+height-requires c κs = search needs
 
 sub-layer : tie.Need-sub-layer
 sub-layer c = omega (arith, few (c .before .before .before .before .args .s .now) (c .before .before .before .before .args .j) (c .before .before .before .before .args .mask .now) (c .before .before .before .before .pre .0))
@@ -23,13 +23,13 @@ element-copy-out-layer : tie.Need-element-copy-out-layer
 element-copy-out-layer c = omega (arith, few (c .before .before .before .before .args .s .now) (c .before .before .before .before .args .j) (c .before .before .before .before .args .mask .now) (c .before .before .before .before .pre .0))
 
 layer-requires : tie.Need-layer-requires
-layer-requires c κs = let q = sides (c .before .before .before .before .before .args .s .now) (c .before .before .before .before .before .args .j) (c .before .before .before .before .before .args .mask .now) (c .before .before .before .before .before .pre .0) (c .before .before .byte-at .ensures .0) (c .before .byte-at2 .ensures .0) in (q .0, q .1, q .2, q .3, goal-small (c .before .before .before .before .before .args .s .now) (c .before .before .before .before .before .args .j) (c .before .before .before .before .before .args .mask .now) (c .before .before .before .before .before .pre .0) (c .before .before .byte-at .ensures .0) (c .before .byte-at2 .ensures .0) (c .before .before .before .before .before .args .goals .now) (c .before .before .before .before .before .pre .1) _ (omega (arith, few (c .before .before .before .before .before .args .s .now) (c .before .before .before .before .before .args .j) (c .before .before .before .before .before .args .mask .now) (c .before .before .before .before .before .pre .0))))
+layer-requires c κs = let q = sides (c .before .before .before .before .before .args .s .now) (c .before .before .before .before .before .args .j) (c .before .before .before .before .before .args .mask .now) (c .before .before .before .before .before .pre .0) (c .before .before .width .ensures .0) (c .before .height .ensures .0) in (q .0, q .1, q .2, q .3, goal-small (c .before .before .before .before .before .args .s .now) (c .before .before .before .before .before .args .j) (c .before .before .before .before .before .args .mask .now) (c .before .before .before .before .before .pre .0) (c .before .before .width .ensures .0) (c .before .height .ensures .0) (c .before .before .before .before .before .args .goals .now) (c .before .before .before .before .before .pre .1) _ (omega (arith, few (c .before .before .before .before .before .args .s .now) (c .before .before .before .before .before .args .j) (c .before .before .before .before .before .args .mask .now) (c .before .before .before .before .before .pre .0))))
 
 mul-store : tie.Need-mul-store
 mul-store c = omega (arith, few (c .before .before .before .before .before .before .before .args .s .now) (c .before .before .before .before .before .before .before .args .j) (c .before .before .before .before .before .before .before .args .mask .now) (c .before .before .before .before .before .before .before .pre .0))
 
 store-requires : tie.Need-store-requires
-store-requires c κs = let q = sides (c .before .before .before .before .before .before .before .before .args .s .now) (c .before .before .before .before .before .before .before .before .args .j) (c .before .before .before .before .before .before .before .before .args .mask .now) (c .before .before .before .before .before .before .before .before .pre .0) (c .before .before .before .before .before .byte-at .ensures .0) (c .before .before .before .before .byte-at2 .ensures .0) in (q .0, q .1, q .2, q .3, room (c .before .before .before .before .before .before .before .before .args .s .now) (c .before .before .before .before .before .before .before .before .args .j) (c .before .before .before .before .before .before .before .before .args .mask .now) (c .before .before .before .before .before .before .before .before .pre .0) (c .before .before .before .before .before .byte-at .ensures .0) (c .before .before .before .before .byte-at2 .ensures .0) (c .before .before .before .before .before .before .before .before .args .n) _ (omega (arith, few (c .before .before .before .before .before .before .before .before .args .s .now) (c .before .before .before .before .before .before .before .before .args .j) (c .before .before .before .before .before .before .before .before .args .mask .now) (c .before .before .before .before .before .before .before .before .pre .0))) (c .before .before .before .before .before .before .before .before .pre .3))
+store-requires c κs = let q = sides (c .before .before .before .before .before .before .before .before .args .s .now) (c .before .before .before .before .before .before .before .before .args .j) (c .before .before .before .before .before .before .before .before .args .mask .now) (c .before .before .before .before .before .before .before .before .pre .0) (c .before .before .before .before .before .width .ensures .0) (c .before .before .before .before .height .ensures .0) in (q .0, q .1, q .2, q .3, room (c .before .before .before .before .before .before .before .before .args .s .now) (c .before .before .before .before .before .before .before .before .args .j) (c .before .before .before .before .before .before .before .before .args .mask .now) (c .before .before .before .before .before .before .before .before .pre .0) (c .before .before .before .before .before .width .ensures .0) (c .before .before .before .before .height .ensures .0) (c .before .before .before .before .before .before .before .before .args .n) _ (omega (arith, few (c .before .before .before .before .before .before .before .before .args .s .now) (c .before .before .before .before .before .before .before .before .args .j) (c .before .before .before .before .before .before .before .before .args .mask .now) (c .before .before .before .before .before .before .before .before .pre .0))) (c .before .before .before .before .before .before .before .before .pre .3))
 
 sub-store : tie.Need-sub-store
 sub-store c = omega (arith, few (c .before .before .before .before .before .before .before .before .before .before .before .before .args .s .now) (c .before .before .before .before .before .before .before .before .before .before .before .before .args .j) (c .before .before .before .before .before .before .before .before .before .before .before .before .args .mask .now) (c .before .before .before .before .before .before .before .before .before .before .before .before .pre .0))
@@ -38,20 +38,20 @@ mul-store-2 : tie.Need-mul-store-2
 mul-store-2 c = omega (arith, few (c .before .before .before .before .before .before .before .before .before .before .before .before .args .s .now) (c .before .before .before .before .before .before .before .before .before .before .before .before .args .j) (c .before .before .before .before .before .before .before .before .before .before .before .before .args .mask .now) (c .before .before .before .before .before .before .before .before .before .before .before .before .pre .0))
 
 store-requires-2 : tie.Need-store-requires-2
-store-requires-2 c κs = let q = sides (c .before .before .before .before .before .before .before .before .before .before .before .before .before .args .s .now) (c .before .before .before .before .before .before .before .before .before .before .before .before .before .args .j) (c .before .before .before .before .before .before .before .before .before .before .before .before .before .args .mask .now) (c .before .before .before .before .before .before .before .before .before .before .before .before .before .pre .0) (c .before .before .before .before .before .before .before .before .before .before .byte-at .ensures .0) (c .before .before .before .before .before .before .before .before .before .byte-at2 .ensures .0) in (q .0, q .1, q .2, q .3, room (c .before .before .before .before .before .before .before .before .before .before .before .before .before .args .s .now) (c .before .before .before .before .before .before .before .before .before .before .before .before .before .args .j) (c .before .before .before .before .before .before .before .before .before .before .before .before .before .args .mask .now) (c .before .before .before .before .before .before .before .before .before .before .before .before .before .pre .0) (c .before .before .before .before .before .before .before .before .before .before .byte-at .ensures .0) (c .before .before .before .before .before .before .before .before .before .byte-at2 .ensures .0) (c .before .before .before .before .before .before .before .before .before .before .before .before .before .args .n - 1) _ (omega (arith, few (c .before .before .before .before .before .before .before .before .before .before .before .before .before .args .s .now) (c .before .before .before .before .before .before .before .before .before .before .before .before .before .args .j) (c .before .before .before .before .before .before .before .before .before .before .before .before .before .args .mask .now) (c .before .before .before .before .before .before .before .before .before .before .before .before .before .pre .0))) (c .before .before .before .before .store .ensures .size ∙ c .before .before .before .before .before .before .before .before .before .before .before .before .before .pre .3))
+store-requires-2 c κs = let q = sides (c .before .before .before .before .before .before .before .before .before .before .before .before .before .args .s .now) (c .before .before .before .before .before .before .before .before .before .before .before .before .before .args .j) (c .before .before .before .before .before .before .before .before .before .before .before .before .before .args .mask .now) (c .before .before .before .before .before .before .before .before .before .before .before .before .before .pre .0) (c .before .before .before .before .before .before .before .before .before .before .width .ensures .0) (c .before .before .before .before .before .before .before .before .before .height .ensures .0) in (q .0, q .1, q .2, q .3, room (c .before .before .before .before .before .before .before .before .before .before .before .before .before .args .s .now) (c .before .before .before .before .before .before .before .before .before .before .before .before .before .args .j) (c .before .before .before .before .before .before .before .before .before .before .before .before .before .args .mask .now) (c .before .before .before .before .before .before .before .before .before .before .before .before .before .pre .0) (c .before .before .before .before .before .before .before .before .before .before .width .ensures .0) (c .before .before .before .before .before .before .before .before .before .height .ensures .0) (c .before .before .before .before .before .before .before .before .before .before .before .before .before .args .n - 1) _ (omega (arith, few (c .before .before .before .before .before .before .before .before .before .before .before .before .before .args .s .now) (c .before .before .before .before .before .before .before .before .before .before .before .before .before .args .j) (c .before .before .before .before .before .before .before .before .before .before .before .before .before .args .mask .now) (c .before .before .before .before .before .before .before .before .before .before .before .before .before .pre .0))) (c .before .before .before .before .store .ensures .size ∙ c .before .before .before .before .before .before .before .before .before .before .before .before .before .pre .3))
 
 same-length : tie.Need-same-length
 same-length c = search needs
 
 returns : tie.Need-returns
-returns c = two-levels (c .before .before .before .before .before .before .before .before .before .before .before .before .before .before .before .before .args .s .now) (c .before .before .before .before .before .before .before .before .before .before .before .before .before .before .before .before .args .j) (c .before .before .before .before .before .before .before .before .before .before .before .before .before .before .before .before .args .mask .now) (c .before .before .before .before .before .before .before .before .before .before .before .before .before .before .before .before .pre .0) (c .before .before .before .before .before .before .before .before .before .before .before .before .before .byte-at .ensures .0) (c .before .before .before .before .before .before .before .before .before .before .before .before .byte-at2 .ensures .0) (c .before .before .before .before .before .before .before .before .before .before .before .before .before .before .before .before .args .goals .now) (c .before .before .before .before .before .before .before .before .before .before .before .before .before .before .before .before .pre .1) (c .before .before .before .before .before .before .before .before .before .before .before .before .before .before .before .before .args .n) (c .before .before .before .before .before .before .before .before .before .before .before .before .before .before .before .before .pre .2) _ _ _ _ (c .before .before .before .before .before .before .before .before .before .before .before .before .before .before .before .before .pre .3) (c .before .before .before .before .before .before .before .before .before .before .layer .ensures) (c .before .before .before .before .before .before .before .store .ensures) (c .before .before .store2 .ensures)
+returns c = two-levels (c .before .before .before .before .before .before .before .before .before .before .before .before .before .before .before .before .args .s .now) (c .before .before .before .before .before .before .before .before .before .before .before .before .before .before .before .before .args .j) (c .before .before .before .before .before .before .before .before .before .before .before .before .before .before .before .before .args .mask .now) (c .before .before .before .before .before .before .before .before .before .before .before .before .before .before .before .before .pre .0) (c .before .before .before .before .before .before .before .before .before .before .before .before .before .width .ensures .0) (c .before .before .before .before .before .before .before .before .before .before .before .before .height .ensures .0) (c .before .before .before .before .before .before .before .before .before .before .before .before .before .before .before .before .args .goals .now) (c .before .before .before .before .before .before .before .before .before .before .before .before .before .before .before .before .pre .1) (c .before .before .before .before .before .before .before .before .before .before .before .before .before .before .before .before .args .n) (c .before .before .before .before .before .before .before .before .before .before .before .before .before .before .before .before .pre .2) _ _ _ _ (c .before .before .before .before .before .before .before .before .before .before .before .before .before .before .before .before .pre .3) (c .before .before .before .before .before .before .before .before .before .before .layer .ensures) (c .before .before .before .before .before .before .before .store .ensures) (c .before .before .store2 .ensures)
 
 pub last-two-spec : {M : Type 1} → statement M
 last-two-spec =
     tie.close
     (tie.spec
-    byte-at-requires
-    byte-at-requires-2
+    width-requires
+    height-requires
     sub-layer
     mul-layer
     element-copy-out-layer

@@ -6,11 +6,11 @@ use Rattle.by_passes.proofs.Finding.{late-least}
 use Rattle.by_passes.proofs.finish.Statement.{statement}
 use Rattle.by_passes.proofs.finish.Tie as tie
 
-byte-at-requires : tie.Need-byte-at-requires
-byte-at-requires c κs = search needs
+horizon-requires : tie.Need-horizon-requires
+horizon-requires c κs = search needs
 
 returns : tie.Need-returns
-returns c = (late-least (c .before .before .before .before .before .args .s .now) (c .before .before .before .before .before .args .i) (c .before .before .before .before .before .args .j) (c .before .before .before .before .before .args .mask .now) (c .before .before .before .before .before .args .records .now) (c .before .before .before .before .before .pre .0) (c .before .before .before .before .before .args .from) (c .before .before .before .before .before .pre .5) (omega (arith, c .before .byte-at .ensures .0, c .if1 .taken)), λ h. absurd (omega (arith, c .before .byte-at .ensures .0, c .if1 .taken)))
+returns c = (late-least (c .before .before .before .before .before .args .s .now) (c .before .before .before .before .before .args .i) (c .before .before .before .before .before .args .j) (c .before .before .before .before .before .args .mask .now) (c .before .before .before .before .before .args .records .now) (c .before .before .before .before .before .pre .0) (c .before .before .before .before .before .args .from) (c .before .before .before .before .before .pre .5) (omega (arith, c .before .horizon .ensures .0, c .if1 .taken)), λ h. absurd (omega (arith, c .before .horizon .ensures .0, c .if1 .taken)))
 
 guess-requires : tie.Need-guess-requires
 guess-requires c κs = search needs
@@ -28,7 +28,7 @@ same-length-2 : tie.Need-same-length-2
 same-length-2 c = search needs
 
 returns-3 : tie.Need-returns-3
-returns-3 c = (c .before .forward .ensures, λ h. absurd (omega (arith, c .before .before .before .before .before .before .before .before .before .byte-at .ensures .0, c .if3 .taken)))
+returns-3 c = (c .before .forward .ensures, λ h. absurd (omega (arith, c .before .before .before .before .before .before .before .before .before .horizon .ensures .0, c .if3 .taken)))
 
 backward-requires : tie.Need-backward-requires
 backward-requires c κs = search needs
@@ -43,7 +43,7 @@ pub finish-spec : {M : Type 1} → statement M
 finish-spec =
     tie.close
     (tie.spec
-    byte-at-requires
+    horizon-requires
     returns
     guess-requires
     same-length

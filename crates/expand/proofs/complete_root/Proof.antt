@@ -23,8 +23,8 @@ Inv-loop s mask t work₀ spare₀ made bounds m i₀ work spare i =
 abbrev μ-loop : tie.MeasureT-loop
 μ-loop s mask t work₀ spare₀ made bounds m i₀ work spare i = m - i
 
-byte-at-requires : tie.Need-byte-at-requires Inv-loop μ-loop
-byte-at-requires c κs = search needs
+count-requires : tie.Need-count-requires Inv-loop μ-loop
+count-requires c κs = search needs
 
 loop-holds : tie.Need-loop-holds Inv-loop μ-loop
 loop-holds c = (omega arith, refl, same-none _ _ _, λ a st b. b)
@@ -33,7 +33,7 @@ root-path-requires : tie.Need-root-path-requires Inv-loop μ-loop
 root-path-requires c κs =
     let q = c .before .before .before .before .before .before .before .before .pre in
     let l = c .before .before .before .loop in
-    ((given-kept (q .0) (l .inv .1), omega (arith, c .before .before .before .before .byte-at .ensures .0, c .before .before .loop-test .taken)), (q .1 .0, q .1 .1, l .inv .3 (q .1 .0) (q .1 .1) (q .1 .2)))
+    ((given-kept (q .0) (l .inv .1), omega (arith, c .before .before .before .before .count .ensures .0, c .before .before .loop-test .taken)), (q .1 .0, q .1 .1, l .inv .3 (q .1 .0) (q .1 .1) (q .1 .2)))
 
 add-i : tie.Need-add-i Inv-loop μ-loop
 add-i c = omega arith
@@ -51,13 +51,13 @@ loop-again c =
       λ a st b. r .ensures .0 a st (v .3 a st b),
     )
 
-word-at-requires : tie.Need-word-at-requires Inv-loop μ-loop
-word-at-requires c κs = search needs
+limit-requires : tie.Need-limit-requires Inv-loop μ-loop
+limit-requires c κs = search needs
 
 open-root-requires : tie.Need-open-root-requires Inv-loop μ-loop
 open-root-requires c κs =
     let q = c .before .before .before .before .before .before .before .before .pre in
-    let e = c .word-at .ensures .0 in (
+    let e = c .limit .ensures .0 in (
       omega (arith, e, q .1 .2 .within),
       omega (arith, e, limit-low (q .0)),
       omega (arith, e, room-keys (q .0), c .before .before .before .loop .inv .1),
@@ -72,10 +72,10 @@ returns c =
     let l = c .before .before .before .before .before .before .loop in
     let o = c .before .before .open-root in
     let f = accepted-fits (c .before .before .before .before .before .before .before .before .before .before .before .args .s .now) (q .0 .accepted) in
-    let full : l .i ≡ read (c .before .before .before .before .before .before .before .before .before .before .before .args .s .now) .count = omega (arith, c .before .before .before .before .before .before .before .byte-at .ensures .0, c .before .before .before .before .before .loop-test .left) in (
-      λ a st b. root-held f (l .inv .3 a st b) full (c .before .before .before .word-at .ensures .0) (o .ensures .0) (o .ensures .1),
+    let full : l .i ≡ read (c .before .before .before .before .before .before .before .before .before .before .before .args .s .now) .count = omega (arith, c .before .before .before .before .before .before .before .count .ensures .0, c .before .before .before .before .before .loop-test .left) in (
+      λ a st b. root-held f (l .inv .3 a st b) full (c .before .before .before .limit .ensures .0) (o .ensures .0) (o .ensures .1),
       same-then (read (c .before .before .before .before .before .before .before .before .before .before .before .args .s .now)) (c .before .before .before .before .before .before .before .before .before .before .before .args .work .now) (l .work) (o .last .0) (c .before .before .before .before .before .before .before .before .before .before .before .args .made) (l .inv .2)
-          (root-held-same f (l .inv .3 (q .1 .0) (q .1 .1) (q .1 .2)) full (c .before .before .before .word-at .ensures .0) (o .ensures .0) (o .ensures .1)),
+          (root-held-same f (l .inv .3 (q .1 .0) (q .1 .1) (q .1 .2)) full (c .before .before .before .limit .ensures .0) (o .ensures .0) (o .ensures .1)),
     )
 
 pub complete-root-spec : {M : Type 1} → statement M
@@ -84,13 +84,13 @@ complete-root-spec =
     (tie.spec
     Inv-loop
     μ-loop
-    byte-at-requires
+    count-requires
     loop-holds
     root-path-requires
     add-i
     loop-less
     loop-again
-    word-at-requires
+    limit-requires
     open-root-requires
     same-length
     returns)

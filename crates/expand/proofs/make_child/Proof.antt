@@ -8,14 +8,14 @@ use Rattle.expand.proofs.ChildPath.{records-room, carrier-few, child-sm
 use Rattle.expand.proofs.make_child.Statement.{statement}
 use Rattle.expand.proofs.make_child.Tie as tie
 
-byte-at-requires : tie.Need-byte-at-requires
-byte-at-requires c κs = search needs
+width-requires : tie.Need-width-requires
+width-requires c κs = search needs
 
-byte-at-requires-2 : tie.Need-byte-at-requires-2
-byte-at-requires-2 c κs = search needs
+horizon-requires : tie.Need-horizon-requires
+horizon-requires c κs = search needs
 
-word-at-requires : tie.Need-word-at-requires
-word-at-requires c κs = search needs
+limit-requires : tie.Need-limit-requires
+limit-requires c κs = search needs
 
 slice-aggregate-child-path : tie.Need-slice-aggregate-child-path
 slice-aggregate-child-path c = search needs
@@ -53,7 +53,7 @@ returns-2 c =
     let x = c .before .before .before .before .before .before .before .before .before .before .before .before .before .before .before .before .before .before .before .before .before .pre .0 in
     let path = c .before .before .before .before .before .before .before .before .before .child-path in
     let found = a-path x _ (path .ensures .1 .1) (path .result) (path .ensures .0) _ (c .before .before .finish .given .1) in (
-      none-left x _ (path .ensures .1 .1) (found .0) (found .1) (omega (arith, c .before .before .before .before .before .before .before .before .before .before .before .before .before .before .word-at .ensures .0)),
+      none-left x _ (path .ensures .1 .1) (found .0) (found .1) (omega (arith, c .before .before .before .before .before .before .before .before .before .before .before .before .before .before .limit .ensures .0)),
       path-same x _ (path .ensures .1 .1),
     )
 
@@ -64,13 +64,13 @@ array-share-prefix-path : tie.Need-array-share-prefix-path
 array-share-prefix-path c = search needs
 
 slice-aggregate-make-child : tie.Need-slice-aggregate-make-child
-slice-aggregate-make-child c = sym (length-take-le _ _ (omega (arith, c .before .before .before .before .before .before .before .before .before .before .before .before .before .before .before .before .before .byte-at2 .ensures .1, c .before .before .before .before .before .before .before .before .before .before .before .child-path .kept .1 .1 .1 .1 .1 .1 .1 .0)))
+slice-aggregate-make-child c = sym (length-take-le _ _ (omega (arith, c .before .before .before .before .before .before .before .before .before .before .before .before .before .before .before .before .before .horizon .ensures .1, c .before .before .before .before .before .before .before .before .before .before .before .child-path .kept .1 .1 .1 .1 .1 .1 .1 .0)))
 
 make-child-requires : tie.Need-make-child-requires
 make-child-requires c κs =
     let pre = c .before .before .before .before .before .before .before .before .before .before .before .before .before .before .before .before .before .before .before .before .before .before .before .pre in
     let path = c .before .before .before .before .before .before .before .before .before .before .before .child-path in
-    let word = c .before .before .before .before .before .before .before .before .before .before .before .before .before .before .before .before .word-at in
+    let word = c .before .before .before .before .before .before .before .before .before .before .before .before .before .before .before .before .limit in
     let x = pre .0 in
     let found = a-path x _ (path .ensures .1 .1) (path .result) (path .ensures .0) _ (c .before .before .before .before .finish .given .1) in (
       (
@@ -83,8 +83,8 @@ make-child-requires c κs =
       ),
       (
         omega (arith, finish-small x _ (path .ensures .1 .1) (found .0) (found .1) _ (found .2)),
-        length-take-le _ _ (omega (arith, c .before .before .before .before .before .before .before .before .before .before .before .before .before .before .before .before .before .byte-at2 .ensures .1, path .kept .1 .1 .1 .1 .1 .1 .1 .0)),
-        omega (arith, width-range _ (x .accepted), c .before .before .before .before .before .before .before .before .before .before .before .before .before .before .before .before .before .before .byte-at .ensures .0),
+        length-take-le _ _ (omega (arith, c .before .before .before .before .before .before .before .before .before .before .before .before .before .before .before .before .before .horizon .ensures .1, path .kept .1 .1 .1 .1 .1 .1 .1 .0)),
+        omega (arith, width-range _ (x .accepted), c .before .before .before .before .before .before .before .before .before .before .before .before .before .before .before .before .before .before .width .ensures .0),
       ),
     )
 
@@ -103,11 +103,11 @@ returns-3 : tie.Need-returns-3
 returns-3 c =
     let x = c .before .before .before .before .before .before .before .before .before .before .before .before .before .before .before .before .before .before .before .before .before .before .before .before .before .before .pre .0 in
     let path = c .before .before .before .before .before .before .before .before .before .before .before .before .before .before .child-path in
-    let word = c .before .before .before .before .before .before .before .before .before .before .before .before .before .before .before .before .before .before .before .word-at in
+    let word = c .before .before .before .before .before .before .before .before .before .before .before .before .before .before .before .before .before .before .before .limit in
     let found = a-path x _ (path .ensures .1 .1) (path .result) (path .ensures .0) _ (c .before .before .before .before .before .before .before .finish .given .1) in
     let front = path .ensures .1 .1 in
     let new =
-    new-child x _ front (found .0) (found .1) _ _ _ _ _ _ _ (word .ensures .0) (c .before .before .before .before .before .before .before .before .before .before .before .before .before .before .before .before .before .before .before .before .before .byte-at .ensures .0) (c .before .before .before .before .before .before .before .before .before .before .before .before .before .before .before .before .before .before .before .before .byte-at2 .ensures .0) (found .2) (path .ensures .1 .0) (c .before .before .make-child .ensures) in (
+    new-child x _ front (found .0) (found .1) _ _ _ _ _ _ _ (word .ensures .0) (c .before .before .before .before .before .before .before .before .before .before .before .before .before .before .before .before .before .before .before .before .before .width .ensures .0) (c .before .before .before .before .before .before .before .before .before .before .before .before .before .before .before .before .before .before .before .before .horizon .ensures .0) (found .2) (path .ensures .1 .0) (c .before .before .make-child .ensures) in (
       child-made x _ front (found .0) (found .1) _ new (omega (arith, x .held .1 .within, word .ensures .0)),
       made-same x _ front (found .0) (found .1) _ new,
     )
@@ -116,9 +116,9 @@ pub make-child-spec : {M : Type 1} → statement M
 make-child-spec =
     tie.close
     (tie.spec
-    byte-at-requires
-    byte-at-requires-2
-    word-at-requires
+    width-requires
+    horizon-requires
+    limit-requires
     slice-aggregate-child-path
     child-path-requires
     enum-known-finish

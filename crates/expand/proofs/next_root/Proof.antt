@@ -29,8 +29,8 @@ returns c =
       same-none _ _ _,
     )
 
-byte-at-requires : tie.Need-byte-at-requires
-byte-at-requires c κs = search needs
+count-requires : tie.Need-count-requires
+count-requires c κs = search needs
 
 next-slot-requires : tie.Need-next-slot-requires
 next-slot-requires c κs =
@@ -53,12 +53,12 @@ returns-2 c =
       λ opened rest bound h.
           none-remain (read (u .s .now)) (u .work .now) (u .made) (u .latest) bound (nodeAt (read (u .s .now)) (u .work .now) (u .n) .root) opened rest
           (is-root (read (u .s .now)) (u .work .now) (u .n) (c .before .before .before .before .before .before .is-root .result) (c .before .before .before .before .before .before .is-root .ensures) (c .before .before .before .before .before .if1 .left))
-          (without-slot (q .0) h (c .before .before .before .before .byte-at .ensures .0) (c .before .before .next-slot .result) (c .before .before .next-slot .ensures) (c .enum-told .given .1)) h,
+          (without-slot (q .0) h (c .before .before .before .before .count .ensures .0) (c .before .before .next-slot .result) (c .before .before .next-slot .ensures) (c .enum-told .given .1)) h,
       same-none _ _ _,
     )
 
-word-at-requires : tie.Need-word-at-requires
-word-at-requires c κs = search needs
+limit-requires : tie.Need-limit-requires
+limit-requires c κs = search needs
 
 same-length-3 : tie.Need-same-length-3
 same-length-3 c = search needs
@@ -68,10 +68,10 @@ returns-3 c =
     let u = c .before .before .before .before .before .before .before .before .before .before .before .before .before .before .args in
     let q = c .before .before .before .before .before .before .before .before .before .before .before .before .before .before .pre in (
       λ opened rest bound h.
-          let l = with-slot (q .0) h (c .before .before .before .before .before .before .before .byte-at .ensures .0) (c .before .before .before .before .before .next-slot .result) _ _ (c .before .before .before .before .before .next-slot .ensures) (c .before .before .before .from .given .1) in
+          let l = with-slot (q .0) h (c .before .before .before .before .before .before .before .count .ensures .0) (c .before .before .before .before .before .next-slot .result) _ _ (c .before .before .before .before .before .next-slot .ensures) (c .before .before .before .from .given .1) in
           none-more (read (u .s .now)) (u .work .now) (u .made) (u .latest) bound (nodeAt (read (u .s .now)) (u .work .now) (u .n) .root) opened rest (l .0) (l .1)
           (is-root (read (u .s .now)) (u .work .now) (u .n) (c .before .before .before .before .before .before .before .before .before .is-root .result) (c .before .before .before .before .before .before .before .before .before .is-root .ensures) (c .before .before .before .before .before .before .before .before .if1 .left)) (l .2)
-          (omega (arith, c .before .word-at .ensures .0, c .if2 .taken)),
+          (omega (arith, c .before .limit .ensures .0, c .if2 .taken)),
       same-none _ _ _,
     )
 
@@ -79,11 +79,11 @@ next-root-requires : tie.Need-next-root-requires
 next-root-requires c κs =
     let q = c .before .before .before .before .before .before .before .before .before .before .before .before .before .before .before .pre in
     let h = q .2 .1 in
-    let m = c .before .before .before .before .before .before .before .before .byte-at .ensures .0 in
-    let less : c .before .before .before .before .before .before .before .before .before .before .before .before .before .before .before .args .made < read (c .before .before .before .before .before .before .before .before .before .before .before .before .before .before .before .args .s .now) .limit = omega (arith, h .within, c .before .before .word-at .ensures .0, c .before .if2 .left) in (
+    let m = c .before .before .before .before .before .before .before .before .count .ensures .0 in
+    let less : c .before .before .before .before .before .before .before .before .before .before .before .before .before .before .before .args .made < read (c .before .before .before .before .before .before .before .before .before .before .before .before .before .before .before .args .s .now) .limit = omega (arith, h .within, c .before .before .limit .ensures .0, c .before .if2 .left) in (
       (few-carriers (q .0) h m, h .recent, omega (arith, limit-low (q .0)), room-record (q .0) (c .before .before .before .before .before .before .before .before .before .before .before .before .before .before .before .args .made) less),
       (
-        subst (FirstSlot (c .before .before .before .before .before .before .before .before .byte-at .result) (c .before .before .before .before .before .before .before .before .before .before .before .before .before .before .before .args .work .now) (c .before .before .before .before .before .before .before .before .before .before .before .before .before .before .before .args .latest))
+        subst (FirstSlot (c .before .before .before .before .before .before .before .before .count .result) (c .before .before .before .before .before .before .before .before .before .before .before .before .before .before .before .args .work .now) (c .before .before .before .before .before .before .before .before .before .before .before .before .before .before .before .args .latest))
             (c .before .before .before .before .from .given .1) (c .before .before .before .before .before .before .next-slot .ensures),
         (q .2 .0 .rest, slots-asked (q .0) h m),
       ),
@@ -93,9 +93,9 @@ complete-root-requires : tie.Need-complete-root-requires
 complete-root-requires c κs =
     let q = c .before .before .before .before .before .before .before .before .before .before .before .before .before .before .before .before .before .before .before .before .pre in
     let h = q .2 .1 in
-    let m = c .before .before .before .before .before .before .before .before .before .before .before .before .before .byte-at .ensures .0 in
+    let m = c .before .before .before .before .before .before .before .before .before .before .before .before .before .count .ensures .0 in
     let r = c .before .before .before .before .next-root in
-    let less : c .before .before .before .before .before .before .before .before .before .before .before .before .before .before .before .before .before .before .before .before .args .made < read (c .before .before .before .before .before .before .before .before .before .before .before .before .before .before .before .before .before .before .before .before .args .s .now) .limit = omega (arith, h .within, c .before .before .before .before .before .before .before .word-at .ensures .0, c .before .before .before .before .before .before .if2 .left) in
+    let less : c .before .before .before .before .before .before .before .before .before .before .before .before .before .before .before .before .before .before .before .before .args .made < read (c .before .before .before .before .before .before .before .before .before .before .before .before .before .before .before .before .before .before .before .before .args .s .now) .limit = omega (arith, h .within, c .before .before .before .before .before .before .before .limit .ensures .0, c .before .before .before .before .before .before .if2 .left) in
     let n = next-begun (q .0) h m less (r .ensures .0) (r .ensures .1 (q .2 .0 .rest) (slots-asked (q .0) h m)) in
     (given-kept (q .0) (r .kept .0), (n .0, heldState (q .2 .0 .opened) (c .before .before .before .before .before .before .before .before .before .before .before .before .before .before .before .before .before .before .before .before .args .made) (n .1), n .3))
 
@@ -112,10 +112,10 @@ returns-4 : tie.Need-returns-4
 returns-4 c =
     let u = c .before .before .before .before .before .before .before .before .before .before .before .before .before .before .before .before .before .before .before .before .before .before .before .args in
     let q = c .before .before .before .before .before .before .before .before .before .before .before .before .before .before .before .before .before .before .before .before .before .before .before .pre in
-    let m = c .before .before .before .before .before .before .before .before .before .before .before .before .before .before .before .before .byte-at .ensures .0 in
+    let m = c .before .before .before .before .before .before .before .before .before .before .before .before .before .before .before .before .count .ensures .0 in
     let r = c .before .before .before .before .before .before .before .next-root in
     let o = c .before .before .complete-root in
-    let less : u .made < read (u .s .now) .limit = omega (arith, q .2 .1 .within, c .before .before .before .before .before .before .before .before .before .before .word-at .ensures .0, c .before .before .before .before .before .before .before .before .before .if2 .left) in (
+    let less : u .made < read (u .s .now) .limit = omega (arith, q .2 .1 .within, c .before .before .before .before .before .before .before .before .before .before .limit .ensures .0, c .before .before .before .before .before .before .before .before .before .if2 .left) in (
       λ opened rest bound h.
           let n = next-begun (q .0) h m less (r .ensures .0) (r .ensures .1 rest (slots-asked (q .0) h m)) in
           one-more (read (u .s .now)) (o .last .1 .1 .1 .0) (u .made) (u .latest) bound (nodeAt (read (u .s .now)) (u .work .now) (u .n) .root) opened rest (n .0) (n .1)
@@ -132,13 +132,13 @@ next-root-spec =
     is-root-requires
     same-length
     returns
-    byte-at-requires
+    count-requires
     next-slot-requires
     enum-known-from
     enum-told
     same-length-2
     returns-2
-    word-at-requires
+    limit-requires
     same-length-3
     returns-3
     next-root-requires

@@ -14,11 +14,11 @@ use Rattle.expand.proofs.RootPaths.{room-record, task-in, root-ready, r
 use Rattle.expand.proofs.root_path.Statement.{statement}
 use Rattle.expand.proofs.root_path.Tie as tie
 
-byte-at-requires : tie.Need-byte-at-requires
-byte-at-requires c κs = search needs
+width-requires : tie.Need-width-requires
+width-requires c κs = search needs
 
-byte-at-requires-2 : tie.Need-byte-at-requires-2
-byte-at-requires-2 c κs = search needs
+horizon-requires : tie.Need-horizon-requires
+horizon-requires c κs = search needs
 
 task-of-requires : tie.Need-task-of-requires
 task-of-requires c κs =
@@ -94,7 +94,7 @@ slice-aggregate-put-path c =
     let j = c .before .before .before .before .before .before .before .before .before .before .before .before .before .before .before .task-of in
     let l = c .before .before .before .before .before .before .before .before .least in
     path-long (u .i) (q .0 .0) (q .0 .1) (q .1 .2) (j .ensures) (replicate 256 0) (l .ensures .1 .0)
-    (c .before .before .before .before .before .before .before .before .before .before .before .before .before .before .before .before .before .byte-at2 .ensures .0)
+    (c .before .before .before .before .before .before .before .before .before .before .before .before .before .before .before .before .before .horizon .ensures .0)
 
 put-path-requires : tie.Need-put-path-requires
 put-path-requires c κs =
@@ -107,8 +107,8 @@ put-path-requires c κs =
       finish-small (u .i) (q .0 .0) (q .0 .1) (q .1 .2) (j .ensures) (l .ensures .0)
           (c .before .before .before .finish .given .1),
       sym (path-long (u .i) (q .0 .0) (q .0 .1) (q .1 .2) (j .ensures) (replicate 256 0) (l .ensures .1 .0)
-          (c .before .before .before .before .before .before .before .before .before .before .before .before .before .before .before .before .before .byte-at2 .ensures .0)),
-      omega (arith, c .before .before .before .before .before .before .before .before .before .before .before .before .before .before .before .before .before .before .byte-at .ensures .0, width-range (u .s .now) (q .0 .0 .accepted)),
+          (c .before .before .before .before .before .before .before .before .before .before .before .before .before .before .before .before .before .horizon .ensures .0)),
+      omega (arith, c .before .before .before .before .before .before .before .before .before .before .before .before .before .before .before .before .before .before .width .ensures .0, width-range (u .s .now) (q .0 .0 .accepted)),
     )
 
 same-length-2 : tie.Need-same-length-2
@@ -123,18 +123,18 @@ returns-2 c =
     let o = c .before .before .before .before .before .before .finish in (
       λ a st k. root-path-begun (u .i) (q .0 .0) (q .0 .1) k (j .ensures) (l .ensures .0) (o .given .1)
           (replicate 256 0) (l .ensures .1 .0) (l .last .1 .1 .1 .1 .1 .0) (l .ensures .1 .1) (l .kept .1 .1 .1 .1 .1 .0)
-          (c .before .before .before .before .before .before .before .before .before .before .before .before .before .before .before .before .before .before .before .before .before .byte-at .ensures .0) (c .before .before .before .before .before .before .before .before .before .before .before .before .before .before .before .before .before .before .before .before .byte-at2 .ensures .0) (c .before .before .put-path .ensures),
+          (c .before .before .before .before .before .before .before .before .before .before .before .before .before .before .before .before .before .before .before .before .before .width .ensures .0) (c .before .before .before .before .before .before .before .before .before .before .before .before .before .before .before .before .before .before .before .before .horizon .ensures .0) (c .before .before .put-path .ensures),
       root-path-same (u .i) (q .0 .0) (q .0 .1) (q .1 .2) (j .ensures) (l .ensures .0) (o .given .1)
           (replicate 256 0) (l .ensures .1 .0) (l .last .1 .1 .1 .1 .1 .0) (l .ensures .1 .1) (l .kept .1 .1 .1 .1 .1 .0)
-          (c .before .before .before .before .before .before .before .before .before .before .before .before .before .before .before .before .before .before .before .before .before .byte-at .ensures .0) (c .before .before .before .before .before .before .before .before .before .before .before .before .before .before .before .before .before .before .before .before .byte-at2 .ensures .0) (c .before .before .put-path .ensures),
+          (c .before .before .before .before .before .before .before .before .before .before .before .before .before .before .before .before .before .before .before .before .before .width .ensures .0) (c .before .before .before .before .before .before .before .before .before .before .before .before .before .before .before .before .before .before .before .before .horizon .ensures .0) (c .before .before .put-path .ensures),
     )
 
 pub root-path-spec : {M : Type 1} → statement M
 root-path-spec =
     tie.close
     (tie.spec
-    byte-at-requires
-    byte-at-requires-2
+    width-requires
+    horizon-requires
     task-of-requires
     entry-requires
     wide-requires

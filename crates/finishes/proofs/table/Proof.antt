@@ -14,8 +14,8 @@ Inv-loop s mask m starts t₀ j₀ t j = (j ≤ countOf s) × Columns (read s) j
 abbrev μ-loop : tie.MeasureT-loop
 μ-loop s mask m starts t₀ j₀ t j = countOf s - j
 
-byte-at-requires : tie.Need-byte-at-requires Inv-loop μ-loop
-byte-at-requires c κs = tt
+count-requires : tie.Need-count-requires Inv-loop μ-loop
+count-requires c κs = tt
 
 starts-of-requires : tie.Need-starts-of-requires Inv-loop μ-loop
 starts-of-requires c κs = c .before .before .pre .0
@@ -24,22 +24,22 @@ loop-holds : tie.Need-loop-holds Inv-loop μ-loop
 loop-holds c = (omega arith, columns-none (read (c .before .before .before .args .s .now)) _ refl)
 
 column-requires : tie.Need-column-requires Inv-loop μ-loop
-column-requires c κs = (c .before .before .before .before .before .before .pre .0, omega (arith, c .before .before .before .before .byte-at .ensures .0, c .before .loop-test .taken), c .before .before .before .before .before .before .pre .1, c .before .before .before .starts-of .ensures)
+column-requires c κs = (c .before .before .before .before .before .before .pre .0, omega (arith, c .before .before .before .before .count .ensures .0, c .before .loop-test .taken), c .before .before .before .before .before .before .pre .1, c .before .before .before .starts-of .ensures)
 
 put-column-requires : tie.Need-put-column-requires Inv-loop μ-loop
-put-column-requires c κs = let q = count-range (c .before .before .before .before .before .before .before .before .before .args .s .now) (c .before .before .before .before .before .before .before .before .before .pre .0) in (omega (arith, c .before .before .before .before .before .before .before .byte-at .ensures .0, c .before .before .before .before .loop-test .taken), omega (arith, c .before .before .before .before .before .before .before .byte-at .ensures .0), c .before .before .before .before .before .loop .inv .1 .size)
+put-column-requires c κs = let q = count-range (c .before .before .before .before .before .before .before .before .before .args .s .now) (c .before .before .before .before .before .before .before .before .before .pre .0) in (omega (arith, c .before .before .before .before .before .before .before .count .ensures .0, c .before .before .before .before .loop-test .taken), omega (arith, c .before .before .before .before .before .before .before .count .ensures .0), c .before .before .before .before .before .loop .inv .1 .size)
 
 add-j : tie.Need-add-j Inv-loop μ-loop
-add-j c = omega (arith, c .before .before .before .before .before .before .before .before .byte-at .ensures .1, c .before .before .before .before .before .loop-test .taken)
+add-j c = omega (arith, c .before .before .before .before .before .before .before .before .count .ensures .1, c .before .before .before .before .before .loop-test .taken)
 
 loop-less : tie.Need-loop-less Inv-loop μ-loop
-loop-less c = omega (arith, c .before .before .before .before .before .before .before .before .byte-at .ensures .0, c .before .before .before .before .before .loop-test .taken)
+loop-less c = omega (arith, c .before .before .before .before .before .before .before .before .count .ensures .0, c .before .before .before .before .before .loop-test .taken)
 
 loop-again : tie.Need-loop-again Inv-loop μ-loop
-loop-again c = (omega (arith, c .before .before .before .before .before .before .before .before .byte-at .ensures .0, c .before .before .before .before .before .loop-test .taken), columns-more (read (c .before .before .before .before .before .before .before .before .before .before .args .s .now)) (c .before .before .before .before .before .before .loop .j) (c .before .before .before .column .result) (c .before .before .before .before .before .before .loop .t) (c .put-column .last .0) (omega (arith, count-range (c .before .before .before .before .before .before .before .before .before .before .args .s .now) (c .before .before .before .before .before .before .before .before .before .before .pre .0), c .before .before .before .before .before .before .before .before .byte-at .ensures .0, c .before .before .before .before .before .loop-test .taken)) (c .before .before .before .column .ensures) (λ i h. c .put-column .ensures .0 i (omega (arith, c .before .before .before .before .before .before .before .before .byte-at .ensures .0))) (c .put-column .ensures .1) (c .put-column .ensures .2) (c .before .before .before .before .before .before .loop .inv .1))
+loop-again c = (omega (arith, c .before .before .before .before .before .before .before .before .count .ensures .0, c .before .before .before .before .before .loop-test .taken), columns-more (read (c .before .before .before .before .before .before .before .before .before .before .args .s .now)) (c .before .before .before .before .before .before .loop .j) (c .before .before .before .column .result) (c .before .before .before .before .before .before .loop .t) (c .put-column .last .0) (omega (arith, count-range (c .before .before .before .before .before .before .before .before .before .before .args .s .now) (c .before .before .before .before .before .before .before .before .before .before .pre .0), c .before .before .before .before .before .before .before .before .count .ensures .0, c .before .before .before .before .before .loop-test .taken)) (c .before .before .before .column .ensures) (λ i h. c .put-column .ensures .0 i (omega (arith, c .before .before .before .before .before .before .before .before .count .ensures .0))) (c .put-column .ensures .1) (c .put-column .ensures .2) (c .before .before .before .before .before .before .loop .inv .1))
 
 returns : tie.Need-returns Inv-loop μ-loop
-returns c = let e : c .before .loop .j ≡ countOf (c .before .before .before .before .before .args .s .now) = omega (arith, c .before .before .before .byte-at .ensures .0, c .loop-test .left) in columns-all (read (c .before .before .before .before .before .args .s .now)) (c .before .loop .t) (subst (λ (z : ℕ). Columns (read (c .before .before .before .before .before .args .s .now)) z (c .before .loop .t)) e (c .before .loop .inv .1))
+returns c = let e : c .before .loop .j ≡ countOf (c .before .before .before .before .before .args .s .now) = omega (arith, c .before .before .before .count .ensures .0, c .loop-test .left) in columns-all (read (c .before .before .before .before .before .args .s .now)) (c .before .loop .t) (subst (λ (z : ℕ). Columns (read (c .before .before .before .before .before .args .s .now)) z (c .before .loop .t)) e (c .before .loop .inv .1))
 
 pub table-spec : {M : Type 1} → statement M
 table-spec =
@@ -47,7 +47,7 @@ table-spec =
     (tie.spec
     Inv-loop
     μ-loop
-    byte-at-requires
+    count-requires
     starts-of-requires
     loop-holds
     column-requires

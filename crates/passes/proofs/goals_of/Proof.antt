@@ -18,8 +18,8 @@ Inv-loop s j w n goals₀ k₀ goals k = (k ≤ n) × (length goals ≡ 8) × Ea
 abbrev μ-loop : tie.MeasureT-loop
 μ-loop s j w n goals₀ k₀ goals k = n - k
 
-byte-at-requires : tie.Need-byte-at-requires Inv-loop μ-loop
-byte-at-requires c κs = search needs
+width-requires : tie.Need-width-requires Inv-loop μ-loop
+width-requires c κs = search needs
 
 goal-count-requires : tie.Need-goal-count-requires Inv-loop μ-loop
 goal-count-requires c κs = search needs
@@ -31,7 +31,7 @@ goal-requires : tie.Need-goal-requires Inv-loop μ-loop
 goal-requires c κs = search needs
 
 pad-requires : tie.Need-pad-requires Inv-loop μ-loop
-pad-requires c κs = let q = width-range (c .before .before .before .before .before .before .args .s .now) (c .before .before .before .before .before .before .pre) in (omega (arith, c .before .before .before .before .byte-at .ensures .0), omega (arith, c .before .before .before .before .byte-at .ensures .0), omega (arith, c .goal .ensures .1 .0 (c .before .before .before .before .before .before .pre), area-range (c .before .before .before .before .before .before .args .s .now) (c .before .before .before .before .before .before .pre) .1))
+pad-requires c κs = let q = width-range (c .before .before .before .before .before .before .args .s .now) (c .before .before .before .before .before .before .pre) in (omega (arith, c .before .before .before .before .width .ensures .0), omega (arith, c .before .before .before .before .width .ensures .0), omega (arith, c .goal .ensures .1 .0 (c .before .before .before .before .before .before .pre), area-range (c .before .before .before .before .before .before .args .s .now) (c .before .before .before .before .before .before .pre) .1))
 
 mul-goals : tie.Need-mul-goals Inv-loop μ-loop
 mul-goals c = omega (arith, c .before .before .before .before .goal-count .ensures .1 .0 (c .before .before .before .before .before .before .before .pre))
@@ -46,7 +46,7 @@ loop-less : tie.Need-loop-less Inv-loop μ-loop
 loop-less c = search needs
 
 loop-again : tie.Need-loop-again Inv-loop μ-loop
-loop-again c = (omega arith, simp length-set (c .before .before .before .loop .inv .1), each-more (λ m. padOf (read (c .before .before .before .before .before .before .before .args .s .now) .width) (getD (goalsOf (read (c .before .before .before .before .before .before .before .args .s .now)) (c .before .before .before .before .before .before .before .args .j)) m 0)) (c .before .before .before .loop .goals) (c .before .before .before .loop .k) _ (omega (arith, c .before .before .before .loop .inv .1, c .before .before .before .before .goal-count .ensures .1 .0 (c .before .before .before .before .before .before .before .pre))) (c .pad .ensures ∙ ap₂ padOf (c .before .before .before .before .before .byte-at .ensures .0) (c .before .goal .ensures .0)) (c .before .before .before .loop .inv .2))
+loop-again c = (omega arith, simp length-set (c .before .before .before .loop .inv .1), each-more (λ m. padOf (read (c .before .before .before .before .before .before .before .args .s .now) .width) (getD (goalsOf (read (c .before .before .before .before .before .before .before .args .s .now)) (c .before .before .before .before .before .before .before .args .j)) m 0)) (c .before .before .before .loop .goals) (c .before .before .before .loop .k) _ (omega (arith, c .before .before .before .loop .inv .1, c .before .before .before .before .goal-count .ensures .1 .0 (c .before .before .before .before .before .before .before .pre))) (c .pad .ensures ∙ ap₂ padOf (c .before .before .before .before .before .width .ensures .0) (c .before .goal .ensures .0)) (c .before .before .before .loop .inv .2))
 
 returns : tie.Need-returns Inv-loop μ-loop
 returns c = let e : c .before .loop .k ≡ length (goalsOf (read (c .before .before .before .before .before .args .s .now)) (c .before .before .before .before .before .args .j)) = omega (arith, c .before .before .goal-count .ensures .0) in record { many = refl; at = λ k h. c .before .loop .inv .2 k (omega arith) }
@@ -57,7 +57,7 @@ goals-of-spec =
     (tie.spec
     Inv-loop
     μ-loop
-    byte-at-requires
+    width-requires
     goal-count-requires
     loop-holds
     goal-requires

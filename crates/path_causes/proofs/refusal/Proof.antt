@@ -16,10 +16,10 @@ accepted : (c : tie.Else1) → cause (c .before .before .before .before .args .s
 accepted c = sym (c .before .cause .ensures) ∙ c .if1 .left
 
 carrier-in : (c : tie.Else2) → let a = c .before .before .before .before .before .before .before .args in a .i .0 < countOf (a .s .now)
-carrier-in c = omega (arith, c .before .before .byte-at .ensures .0, c .if2 .left)
+carrier-in c = omega (arith, c .before .before .count .ensures .0, c .if2 .left)
 
 task-in : (c : tie.Else3) → let a = c .before .before .before .before .before .before .before .before .before .args in a .j .0 < countOf (a .s .now)
-task-in c = omega (arith, c .before .before .before .before .byte-at .ensures .0, c .if3 .left)
+task-in c = omega (arith, c .before .before .before .before .count .ensures .0, c .if3 .left)
 
 records-good : (c : tie.Else4) → let a = c .before .before .before .before .before .before .before .before .before .before .before .args in goodRecords (read (a .s .now)) (a .records .now) ≡ true
 records-good c = sym (c .before .good-records .ensures) ∙ not-false _ (c .if4 .left)
@@ -39,15 +39,15 @@ returns c =
     let a = c .before .before .before .before .args in
     cause-first (a .s .now) (a .i) (a .j) (a .work) (a .out) (a .records .now) _ (c .before .cause .ensures) (c .if1 .taken)
 
-byte-at-requires : tie.Need-byte-at-requires
-byte-at-requires c κs = search needs
+count-requires : tie.Need-count-requires
+count-requires c κs = search needs
 
 returns-2 : tie.Need-returns-2
 returns-2 c =
     let e1 = c .before .before .before in
     let a = e1 .before .before .before .before .args in
     cause-carrier (a .s .now) (a .i) (a .j) (a .work) (a .out) (a .records .now) (accepted e1)
-    (omega (arith, c .before .before .byte-at .ensures .0, c .if2 .taken))
+    (omega (arith, c .before .before .count .ensures .0, c .if2 .taken))
 
 returns-3 : tie.Need-returns-3
 returns-3 c =
@@ -55,7 +55,7 @@ returns-3 c =
     let e1 = e2 .before .before .before in
     let a = e1 .before .before .before .before .args in
     cause-task (a .s .now) (a .i) (a .j) (a .work) (a .out) (a .records .now) (accepted e1) (carrier-in e2)
-    (omega (arith, e2 .before .before .byte-at .ensures .0, c .if3 .taken))
+    (omega (arith, e2 .before .before .count .ensures .0, c .if3 .taken))
 
 good-records-requires : tie.Need-good-records-requires
 good-records-requires c κs = search needs
@@ -72,8 +72,8 @@ returns-4 c =
 workspace-requires : tie.Need-workspace-requires
 workspace-requires c κs = search needs
 
-byte-at-requires-2 : tie.Need-byte-at-requires-2
-byte-at-requires-2 c κs = search needs
+horizon-requires : tie.Need-horizon-requires
+horizon-requires c κs = search needs
 
 add-words : tie.Need-add-words
 add-words c = search needs
@@ -98,7 +98,7 @@ returns-6 c =
     let e1 = e2 .before .before .before in
     let a = e1 .before .before .before .before .args in
     cause-out (a .s .now) (a .i) (a .j) (a .work) (a .out) (a .records .now) (accepted e1) (carrier-in e2) (task-in e3) (records-good e4) (enough e5)
-    (omega (arith, e5 .before .byte-at2 .ensures .0, c .if6 .taken))
+    (omega (arith, e5 .before .horizon .ensures .0, c .if6 .taken))
 
 returns-7 : tie.Need-returns-7
 returns-7 c =
@@ -109,7 +109,7 @@ returns-7 c =
     let e1 = e2 .before .before .before in
     let a = e1 .before .before .before .before .args in
     cause-none (a .s .now) (a .i) (a .j) (a .work) (a .out) (a .records .now) (accepted e1) (carrier-in e2) (task-in e3) (records-good e4) (enough e5)
-    (omega (arith, e5 .before .byte-at2 .ensures .0, c .if6 .left))
+    (omega (arith, e5 .before .horizon .ensures .0, c .if6 .left))
 
 pub refusal-spec : {M : Type 1} → statement M
 refusal-spec =
@@ -117,13 +117,13 @@ refusal-spec =
     (tie.spec
     cause-requires
     returns
-    byte-at-requires
+    count-requires
     returns-2
     returns-3
     good-records-requires
     returns-4
     workspace-requires
-    byte-at-requires-2
+    horizon-requires
     add-words
     returns-5
     returns-6

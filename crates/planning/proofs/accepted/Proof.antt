@@ -18,11 +18,11 @@ starts-of-requires c κs = search needs
 table-requires : tie.Need-table-requires
 table-requires c κs = search needs
 
-byte-at-requires : tie.Need-byte-at-requires
-byte-at-requires c κs = search needs
+count-requires : tie.Need-count-requires
+count-requires c κs = search needs
 
 first-requires : tie.Need-first-requires
-first-requires c κs = let s = c .before .before .before .before .before .before .before .before .before in omega (arith, c .before .byte-at .ensures .0, count-range (s .args .s .now) (s .pre .0))
+first-requires c κs = let s = c .before .before .before .before .before .before .before .before .before in omega (arith, c .before .count .ensures .0, count-range (s .args .s .now) (s .pre .0))
 
 without-requires : tie.Need-without-requires
 without-requires c κs = search needs
@@ -30,7 +30,7 @@ without-requires c κs = search needs
 returns : tie.Need-returns
 returns c =
     let s = c .before .before .before .before .before .before .before .before .before .before .before .before .before in
-    let e = none-answer (s .args .s .now) (s .pre .0) (c .before .before .before .before .before .before .table .result) (c .before .before .before .before .before .before .table .ensures) (c .before .before .before .before .before .byte-at .result) (c .before .before .before .before .before .byte-at .ensures .0) (c .before .before .before .first .result) (c .before .before .before .first .ensures) (c .before .if1 .taken) in
+    let e = none-answer (s .args .s .now) (s .pre .0) (c .before .before .before .before .before .before .table .result) (c .before .before .before .before .before .before .table .ensures) (c .before .before .before .before .before .count .result) (c .before .before .before .before .before .count .ensures .0) (c .before .before .before .first .result) (c .before .before .before .first .ensures) (c .before .if1 .taken) in
     (c .without .ensures ∙ none-found (planFor (read (s .args .s .now))) 0 e, none-written (planFor (read (s .args .s .now))) 0 (s .args .out .now) e)
 
 slice-aggregate-bounds-of : tie.Need-slice-aggregate-bounds-of
@@ -51,7 +51,7 @@ planned-requires c κs =
         c .before .before .before .before .before .before .before .before .before .before .before .before .before .before .before .before .before .before .before .starts-of .ensures,
         s .pre .2,
       ),
-      some-tasks (s .args .s .now) (s .pre .0) (table .result) (table .ensures) (c .before .before .before .before .before .before .before .before .before .before .before .before .before .before .before .before .byte-at .result) (c .before .before .before .before .before .before .before .before .before .before .before .before .before .before .before .before .byte-at .ensures .0) (c .before .before .before .before .before .before .before .before .before .before .before .before .before .before .first .result) (c .before .before .before .before .before .before .before .before .before .before .before .before .before .before .first .ensures) (c .before .before .before .before .before .before .before .before .before .before .before .before .if1 .left),
+      some-tasks (s .args .s .now) (s .pre .0) (table .result) (table .ensures) (c .before .before .before .before .before .before .before .before .before .before .before .before .before .before .before .before .count .result) (c .before .before .before .before .before .before .before .before .before .before .before .before .before .before .before .before .count .ensures .0) (c .before .before .before .before .before .before .before .before .before .before .before .before .before .before .first .result) (c .before .before .before .before .before .before .before .before .before .before .before .before .before .before .first .ensures) (c .before .before .before .before .before .before .before .before .before .before .before .before .if1 .left),
     )
 
 same-length : tie.Need-same-length
@@ -70,7 +70,7 @@ accepted-spec =
     mask-of-requires
     starts-of-requires
     table-requires
-    byte-at-requires
+    count-requires
     first-requires
     without-requires
     returns

@@ -30,27 +30,27 @@ inside c =
 enum-known-end : tie.Need-enum-known-end
 enum-known-end c = search needs
 
-byte-at-requires : tie.Need-byte-at-requires
-byte-at-requires c κs = search needs
+width-requires : tie.Need-width-requires
+width-requires c κs = search needs
 
-byte-at-requires-2 : tie.Need-byte-at-requires-2
-byte-at-requires-2 c κs = search needs
+count-requires : tie.Need-count-requires
+count-requires c κs = search needs
 
-byte-at-requires-3 : tie.Need-byte-at-requires-3
-byte-at-requires-3 c κs = search needs
+horizon-requires : tie.Need-horizon-requires
+horizon-requires c κs = search needs
 
 write-paths-requires : tie.Need-write-paths-requires
 write-paths-requires c κs =
     let start = c .before .before .before .before .before .before .before .before .before .before .before in
     let ok = start .pre .0 in
     let s = start .args .s .now in
-    let m = c .before .before .before .byte-at2 .ensures .0 in
-    let last = c .before .before .byte-at3 .ensures .0 in
-    let words : c .before .before .before .byte-at2 .result * (c .before .before .byte-at3 .result + 1) ≤ length (start .args .out .now) = rw (m, last, add-one) (start .pre .3) in (
+    let m = c .before .before .before .count .ensures .0 in
+    let last = c .before .before .horizon .ensures .0 in
+    let words : c .before .before .before .count .result * (c .before .before .horizon .result + 1) ≤ length (start .args .out .now) = rw (m, last, add-one) (start .pre .3) in (
       inside (c .before .before .before .before .before),
       omega (arith, m, count-range s ok),
       omega (arith, m, count-range s ok),
-      omega (arith, c .before .before .before .before .byte-at .ensures .0, width-range s ok),
+      omega (arith, c .before .before .before .before .width .ensures .0, width-range s ok),
       omega (arith, last, horizon-range s ok),
       omega (arith, words),
     )
@@ -67,8 +67,8 @@ without-requires c κs = search needs
 enum-known-end-3 : tie.Need-enum-known-end-3
 enum-known-end-3 c = search needs
 
-word-at-requires : tie.Need-word-at-requires
-word-at-requires c κs = search needs
+limit-requires : tie.Need-limit-requires
+limit-requires c κs = search needs
 
 without-requires-2 : tie.Need-without-requires-2
 without-requires-2 c κs = search needs
@@ -82,7 +82,7 @@ returns c a e =
     let d = read (s .args .s .now) in
     let p = at-plan (c .before .before .before .before .before .before .before .before .before) a e in (
       plan-found d (s .args .work .now) _ _ _ a p _ (c .tasks-of .ensures),
-      plan-written d (s .args .work .now) _ _ _ a p _ _ _ (s .args .starts .now) (s .args .out .now) _ (c .before .before .before .before .before .before .before .before .byte-at .ensures .0) (c .before .before .before .before .before .before .byte-at3 .ensures .0) (c .before .before .before .before .before .before .before .byte-at2 .ensures .0) (s .pre .1) (c .before .before .before .write-paths .ensures),
+      plan-written d (s .args .work .now) _ _ _ a p _ _ _ (s .args .starts .now) (s .args .out .now) _ (c .before .before .before .before .before .before .before .before .width .ensures .0) (c .before .before .before .before .before .before .horizon .ensures .0) (c .before .before .before .before .before .before .before .count .ensures .0) (s .pre .1) (c .before .before .before .write-paths .ensures),
     )
 
 returns-2 : tie.Need-returns-2
@@ -95,22 +95,22 @@ returns-3 : tie.Need-returns-3
 returns-3 c a e =
     let s = c .before .before .before .before .before .before .before .before in
     let ended = subst (λ x. EndedWith (read (s .args .s .now)) (s .args .work .now) x a) (c .before .before .before .end3 .given .1) e in
-    (c .without2 .ensures ∙ rw (c .before .word-at .ensures .0) (spent-found a _ _ ended), spent-written a _ _ (s .args .out .now) ended)
+    (c .without2 .ensures ∙ rw (c .before .limit .ensures .0) (spent-found a _ _ ended), spent-written a _ _ (s .args .out .now) ended)
 
 pub answered-spec : {M : Type 1} → statement M
 answered-spec =
     tie.close
     (tie.spec
     enum-known-end
-    byte-at-requires
-    byte-at-requires-2
-    byte-at-requires-3
+    width-requires
+    count-requires
+    horizon-requires
     write-paths-requires
     tasks-of-requires
     enum-known-end-2
     without-requires
     enum-known-end-3
-    word-at-requires
+    limit-requires
     without-requires-2
     same-length
     returns

@@ -17,10 +17,10 @@ abbrev μ-loop : tie.MeasureT-loop
 
 -- tasks are few
 few : (c : tie.In-loop Inv-loop μ-loop) → c .before .loop .j < 12
-few c = omega (arith, c .loop-test .taken, c .before .before .byte-at .ensures .0, count-range (c .before .before .before .before .before .args .s .now) (c .before .before .before .before .before .pre .0) .1)
+few c = omega (arith, c .loop-test .taken, c .before .before .count .ensures .0, count-range (c .before .before .before .before .before .args .s .now) (c .before .before .before .before .before .pre .0) .1)
 
-byte-at-requires : tie.Need-byte-at-requires Inv-loop μ-loop
-byte-at-requires c κs = search needs
+count-requires : tie.Need-count-requires Inv-loop μ-loop
+count-requires c κs = search needs
 
 loop-holds : tie.Need-loop-holds Inv-loop μ-loop
 loop-holds c = (omega arith, none-begun (read (c .before .before .before .args .s .now)) (c .before .before .before .args .table .now) (c .before .before .before .pre .2))
@@ -47,7 +47,7 @@ bounds-requires : tie.Need-bounds-requires Inv-loop μ-loop
 bounds-requires c κs =
     let s = c .before .before .before .before .before .before in
     let loop = c .before .before .loop in
-    (s .pre .0, omega (arith, c .before .loop-test .taken, c .before .before .before .byte-at .ensures .0), s .pre .1, part-long (read (s .args .s .now)) (loop .j) (loop .table) (loop .inv .1) (few (c .before)))
+    (s .pre .0, omega (arith, c .before .loop-test .taken, c .before .before .before .count .ensures .0), s .pre .1, part-long (read (s .args .s .now)) (loop .j) (loop .table) (loop .inv .1) (few (c .before)))
 
 add-j : tie.Need-add-j Inv-loop μ-loop
 add-j c = omega (arith, few (c .before .before .before .before))
@@ -65,7 +65,7 @@ same-length : tie.Need-same-length Inv-loop μ-loop
 same-length c = c .before .loop .inv .1 .long ∙ sym (c .before .before .before .before .before .pre .2)
 
 returns : tie.Need-returns Inv-loop μ-loop
-returns c = all-begun (read (c .before .before .before .before .before .args .s .now)) (c .before .loop .j) (c .before .loop .table) (omega (arith, c .loop-test .left, c .before .before .byte-at .ensures .0)) (c .before .loop .inv .1)
+returns c = all-begun (read (c .before .before .before .before .before .args .s .now)) (c .before .loop .j) (c .before .loop .table) (omega (arith, c .loop-test .left, c .before .before .count .ensures .0)) (c .before .loop .inv .1)
 
 pub bounds-of-spec : {M : Type 1} → statement M
 bounds-of-spec =
@@ -73,7 +73,7 @@ bounds-of-spec =
     (tie.spec
     Inv-loop
     μ-loop
-    byte-at-requires
+    count-requires
     loop-holds
     mul-bounds
     mul-bounds-2

@@ -24,17 +24,17 @@ long-3 c = c .run .kept .1 .1 .1 .1 .0 ∙ long-2 (c .before .before .before .be
 begun : (c : tie.After-first-root) → FirstBegun (c .before .before .before .before .before .before .before .args .s .now) (c .before .before .before .before .before .before .before .pre .0 .0 .accepted) (c .first-root .last .0)
 begun c =
     let s = c .before .before .before .before .before .before .before in
-    first-begun (s .args .s .now) (s .pre .0 .0 .accepted) (c .before .byte-at .result) (s .args .t .now) (s .args .work .now) (c .first-root .last .0) (s .args .tasks) (c .before .byte-at .ensures .0) (s .pre .0 .0 .table-is)
+    first-begun (s .args .s .now) (s .pre .0 .0 .accepted) (c .before .count .result) (s .args .t .now) (s .args .work .now) (c .first-root .last .0) (s .args .tasks) (c .before .count .ensures .0) (s .pre .0 .0 .table-is)
     (c .first-root .ensures .0) (c .first-root .ensures .1)
 
-byte-at-requires : tie.Need-byte-at-requires
-byte-at-requires c κs = search needs
+count-requires : tie.Need-count-requires
+count-requires c κs = search needs
 
 first-root-requires : tie.Need-first-root-requires
 first-root-requires c κs =
     let s = c .before .before .before .before .before .before in
     let ok = s .pre .0 .0 .accepted in
-    let count = c .byte-at .ensures .0 in
+    let count = c .count .ensures .0 in
     let first = s .pre .1 in (
       omega (arith, count, count-range (s .args .s .now) ok),
       omega (arith, count, count-range (s .args .s .now) ok),
@@ -74,7 +74,7 @@ pub planned-spec : {M : Type 1} → statement M
 planned-spec =
     tie.close
     (tie.spec
-    byte-at-requires
+    count-requires
     first-root-requires
     complete-root-requires
     run-requires

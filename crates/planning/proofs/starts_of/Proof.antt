@@ -18,10 +18,10 @@ abbrev μ-loop : tie.MeasureT-loop
 
 -- carriers are few
 few : (c : tie.After-narrow Inv-loop μ-loop) → c .before .before .before .loop .i < 12
-few c = omega (arith, c .before .before .loop-test .taken, c .before .before .before .before .byte-at .ensures .0, count-range (c .before .before .before .before .before .before .args .s .now) (c .before .before .before .before .before .before .pre))
+few c = omega (arith, c .before .before .loop-test .taken, c .before .before .before .before .count .ensures .0, count-range (c .before .before .before .before .before .before .args .s .now) (c .before .before .before .before .before .before .pre))
 
-byte-at-requires : tie.Need-byte-at-requires Inv-loop μ-loop
-byte-at-requires c κs = search needs
+count-requires : tie.Need-count-requires Inv-loop μ-loop
+count-requires c κs = search needs
 
 loop-holds : tie.Need-loop-holds Inv-loop μ-loop
 loop-holds c = (omega arith, refl, λ k h. absurd (omega arith))
@@ -54,7 +54,7 @@ loop-again c =
     )
 
 returns : tie.Need-returns Inv-loop μ-loop
-returns c k h = c .before .loop .inv .2 k (omega (arith, c .loop-test .left, c .before .before .byte-at .ensures .0))
+returns c k h = c .before .loop .inv .2 k (omega (arith, c .loop-test .left, c .before .before .count .ensures .0))
 
 pub starts-of-spec : {M : Type 1} → statement M
 starts-of-spec =
@@ -62,7 +62,7 @@ starts-of-spec =
     (tie.spec
     Inv-loop
     μ-loop
-    byte-at-requires
+    count-requires
     loop-holds
     start-requires
     narrow-requires

@@ -20,8 +20,8 @@ abbrev μ-loop : tie.MeasureT-loop
 μ-loop s i j mask bound links out₀ records bounds horizon goals heads at from₀ counter₀ out from counter =
     2 - counter
 
-byte-at-requires : tie.Need-byte-at-requires Inv-loop μ-loop
-byte-at-requires c κs = search needs
+horizon-requires : tie.Need-horizon-requires Inv-loop μ-loop
+horizon-requires c κs = search needs
 
 goals-of-requires : tie.Need-goals-of-requires Inv-loop μ-loop
 goals-of-requires c κs = c .before .before .before .before .before .pre .0 .accepted
@@ -79,7 +79,7 @@ first-walk-requires : tie.Need-first-walk-requires Inv-loop μ-loop
 first-walk-requires c κs =
     let u = c .before .before .before .before .before .before .before .before .before .before .before .before .before .before .before .before .before .before .before .before .before .args in
     let p = c .before .before .before .before .before .before .before .before .before .before .before .before .before .before .before .before .before .before .before .before .before .pre in
-    (p .0, c .before .before .before .before .before .before .before .before .before .before .before .before .before .before .before .goals-of .ensures, c .before .before .before .before .before .before .before .before .before .before .before .before .before .chains .ensures, part-low (u .s .now) (u .i) (u .j) (u .mask .now) (u .records .now) (p .0) (u .bounds .now) (p .3), part-long (u .s .now) (u .i) (u .j) (u .mask .now) (u .records .now) (p .0) (u .bounds .now) (p .3), omega (arith, c .before .before .before .before .before .before .before .before .before .before .before .before .before .before .before .before .byte-at .ensures .0, c .before .before .before .before .before .before .if1 .left), omega (arith, p .2, ap length (c .before .before .before .before .before .before .before .before .loop .inv .1)))
+    (p .0, c .before .before .before .before .before .before .before .before .before .before .before .before .before .before .before .goals-of .ensures, c .before .before .before .before .before .before .before .before .before .before .before .before .before .chains .ensures, part-low (u .s .now) (u .i) (u .j) (u .mask .now) (u .records .now) (p .0) (u .bounds .now) (p .3), part-long (u .s .now) (u .i) (u .j) (u .mask .now) (u .records .now) (p .0) (u .bounds .now) (p .3), omega (arith, c .before .before .before .before .before .before .before .before .before .before .before .before .before .before .before .before .horizon .ensures .0, c .before .before .before .before .before .before .if1 .left), omega (arith, p .2, ap length (c .before .before .before .before .before .before .before .before .loop .inv .1)))
 
 enum-told : tie.Need-enum-told Inv-loop μ-loop
 enum-told c = search needs
@@ -93,7 +93,7 @@ returns-2 c =
     let p = c .before .before .before .before .before .before .before .before .before .before .before .before .before .before .before .before .before .before .before .before .before .before .before .before .before .before .pre in
     let l = c .before .before .before .before .before .before .before .before .before .before .before .before .before .loop in
     let w = c .before .before .before .before .first-walk in
-    tried-found (u .s .now) (u .i) (u .j) (u .mask .now) (u .records .now) (p .0) (l .from) (l .inv .0) (omega (arith, c .before .before .before .before .before .before .before .before .before .before .before .before .before .before .before .before .before .before .before .before .before .byte-at .ensures .0, c .before .before .before .before .before .before .before .before .before .before .before .if1 .left)) (u .out .now) (l .out) (w .last .1 .1 .1 .1 .1 .1 .1 .1 .1 .1 .0) (l .inv .1) (w .result) (w .ensures) (c .enum-told .given .1)
+    tried-found (u .s .now) (u .i) (u .j) (u .mask .now) (u .records .now) (p .0) (l .from) (l .inv .0) (omega (arith, c .before .before .before .before .before .before .before .before .before .before .before .before .before .before .before .before .before .before .before .before .before .horizon .ensures .0, c .before .before .before .before .before .before .before .before .before .before .before .if1 .left)) (u .out .now) (l .out) (w .last .1 .1 .1 .1 .1 .1 .1 .1 .1 .1 .0) (l .inv .1) (w .result) (w .ensures) (c .enum-told .given .1)
 
 enum-told-2 : tie.Need-enum-told-2 Inv-loop μ-loop
 enum-told-2 c = search needs
@@ -107,13 +107,13 @@ returns-3 c =
     let p = c .before .before .before .before .before .before .before .before .before .before .before .before .before .before .before .before .before .before .before .before .before .before .before .before .before .before .pre in
     let l = c .before .before .before .before .before .before .before .before .before .before .before .before .before .loop in
     let w = c .before .before .before .before .first-walk in
-    tried-cut (u .s .now) (u .i) (u .j) (u .mask .now) (u .records .now) (p .0) (l .from) (l .inv .0) (omega (arith, c .before .before .before .before .before .before .before .before .before .before .before .before .before .before .before .before .before .before .before .before .before .byte-at .ensures .0, c .before .before .before .before .before .before .before .before .before .before .before .if1 .left)) (u .out .now) (l .out) (w .last .1 .1 .1 .1 .1 .1 .1 .1 .1 .1 .0) (l .inv .1) (w .result) (w .ensures) (c .enum-told2 .given .1)
+    tried-cut (u .s .now) (u .i) (u .j) (u .mask .now) (u .records .now) (p .0) (l .from) (l .inv .0) (omega (arith, c .before .before .before .before .before .before .before .before .before .before .before .before .before .before .before .before .before .before .before .before .before .horizon .ensures .0, c .before .before .before .before .before .before .before .before .before .before .before .if1 .left)) (u .out .now) (l .out) (w .last .1 .1 .1 .1 .1 .1 .1 .1 .1 .1 .0) (l .inv .1) (w .result) (w .ensures) (c .enum-told2 .given .1)
 
 enum-told-3 : tie.Need-enum-told-3 Inv-loop μ-loop
 enum-told-3 c = search needs
 
 add-from : tie.Need-add-from Inv-loop μ-loop
-add-from c = omega (arith, c .before .before .before .before .before .before .before .before .before .before .before .before .before .before .before .before .before .before .before .before .before .byte-at .ensures .0, c .before .before .before .before .before .before .before .before .before .before .before .if1 .left, horizon-most (c .before .before .before .before .before .before .before .before .before .before .before .before .before .before .before .before .before .before .before .before .before .before .before .before .before .before .pre .0))
+add-from c = omega (arith, c .before .before .before .before .before .before .before .before .before .before .before .before .before .before .before .before .before .before .before .before .before .horizon .ensures .0, c .before .before .before .before .before .before .before .before .before .before .before .if1 .left, horizon-most (c .before .before .before .before .before .before .before .before .before .before .before .before .before .before .before .before .before .before .before .before .before .before .before .before .before .before .pre .0))
 
 add-counter : tie.Need-add-counter Inv-loop μ-loop
 add-counter c = search needs
@@ -127,7 +127,7 @@ loop-again c =
     let p = c .before .before .before .before .before .before .before .before .before .before .before .before .before .before .before .before .before .before .before .before .before .before .before .before .before .before .pre in
     let l = c .before .before .before .before .before .before .before .before .before .before .before .before .before .loop in
     let w = c .before .before .before .before .first-walk in
-    let q = tried-later (u .s .now) (u .i) (u .j) (u .mask .now) (u .records .now) (p .0) (l .from) (l .inv .0) (omega (arith, c .before .before .before .before .before .before .before .before .before .before .before .before .before .before .before .before .before .before .before .before .before .byte-at .ensures .0, c .before .before .before .before .before .before .before .before .before .before .before .if1 .left)) (u .out .now) (l .out) (w .last .1 .1 .1 .1 .1 .1 .1 .1 .1 .1 .0) (l .inv .1) (w .result) (w .ensures) (c .enum-told3 .given .1) in
+    let q = tried-later (u .s .now) (u .i) (u .j) (u .mask .now) (u .records .now) (p .0) (l .from) (l .inv .0) (omega (arith, c .before .before .before .before .before .before .before .before .before .before .before .before .before .before .before .before .before .before .before .before .before .horizon .ensures .0, c .before .before .before .before .before .before .before .before .before .before .before .if1 .left)) (u .out .now) (l .out) (w .last .1 .1 .1 .1 .1 .1 .1 .1 .1 .1 .0) (l .inv .1) (w .result) (w .ensures) (c .enum-told3 .given .1) in
     (q .0, q .1, omega arith)
 
 same-length-4 : tie.Need-same-length-4 Inv-loop μ-loop
@@ -146,7 +146,7 @@ by-walk-spec =
     (tie.spec
     Inv-loop
     μ-loop
-    byte-at-requires
+    horizon-requires
     goals-of-requires
     chains-requires
     mul-at

@@ -20,8 +20,8 @@ room-is : (c : tie.After-workspace) → c .workspace .result ≡ workspaceFor (r
 room-is c = c .workspace .ensures .0
 
 -- the words of a plan
-words-are : (c : tie.After-byte-at2) → c .before .byte-at .result * (c .byte-at2 .result + 1) ≡ planWords (read (c .before .before .before .before .before .before .args .s .now))
-words-are c = rw (c .before .byte-at .ensures .0, c .byte-at2 .ensures .0, add-one) refl
+words-are : (c : tie.After-horizon) → c .before .count .result * (c .horizon .result + 1) ≡ planWords (read (c .before .before .before .before .before .before .args .s .now))
+words-are c = rw (c .before .count .ensures .0, c .horizon .ensures .0, add-one) refl
 
 enough : (c : tie.Else2) → let a = c .before .before .before .before .before .before .before .args in workspaceFor (read (a .s .now)) ≤ a .work
 enough c = omega (arith, c .if2 .left, room-is (c .before .before .before))
@@ -37,11 +37,11 @@ returns c =
 workspace-requires : tie.Need-workspace-requires
 workspace-requires c κs = search needs
 
-byte-at-requires : tie.Need-byte-at-requires
-byte-at-requires c κs = search needs
+count-requires : tie.Need-count-requires
+count-requires c κs = search needs
 
-byte-at-requires-2 : tie.Need-byte-at-requires-2
-byte-at-requires-2 c κs = search needs
+horizon-requires : tie.Need-horizon-requires
+horizon-requires c κs = search needs
 
 add-words : tie.Need-add-words
 add-words c = search needs
@@ -51,7 +51,7 @@ product : (a b : ℕ) → a < 256 → b < 256 → a * (b + 1) ≤ 65536
 product a b l h = let x : a ≤ 256 = omega arith in let y : b + 1 ≤ 256 = omega arith in omega (arith, mul-le-mul x y)
 
 mul-words : tie.Need-mul-words
-mul-words c = omega (arith, product (c .before .byte-at .result) (c .byte-at2 .result) (c .before .byte-at .ensures .1) (c .byte-at2 .ensures .1))
+mul-words c = omega (arith, product (c .before .count .result) (c .horizon .result) (c .before .count .ensures .1) (c .horizon .ensures .1))
 
 returns-2 : tie.Need-returns-2
 returns-2 c =
@@ -78,8 +78,8 @@ refusal-spec =
     cause-requires
     returns
     workspace-requires
-    byte-at-requires
-    byte-at-requires-2
+    count-requires
+    horizon-requires
     add-words
     mul-words
     returns-2

@@ -18,8 +18,8 @@ Inv-loop s m most₀ j₀ most j = (j ≤ m) × (most < 32768) × (mostGoals (re
 abbrev μ-loop : tie.MeasureT-loop
 μ-loop s m most₀ j₀ most j = m - j
 
-byte-at-requires : tie.Need-byte-at-requires Inv-loop μ-loop
-byte-at-requires c κs = search needs
+count-requires : tie.Need-count-requires Inv-loop μ-loop
+count-requires c κs = search needs
 
 loop-holds : tie.Need-loop-holds Inv-loop μ-loop
 loop-holds c = omega arith
@@ -55,7 +55,7 @@ most-goals-spec =
     (tie.spec
     Inv-loop
     μ-loop
-    byte-at-requires
+    count-requires
     loop-holds
     goals-number-requires
     larger-requires

@@ -18,13 +18,13 @@ unfolding workspaceFor
 formula s n h a k = rw (n, h, a, k, add-one (horizonOf s), add-one (mostGoals (read s))) refl
 
 -- the products fit
-small : (c : tie.After-area) → Products (c .before .before .before .byte-at .result) (c .area .result) (c .before .before .most-goals .result)
+small : (c : tie.After-area) → Products (c .before .before .before .horizon .result) (c .area .result) (c .before .before .most-goals .result)
 small c =
-    products (c .before .before .before .byte-at .result) (c .area .result) (c .before .before .most-goals .result)
-    (c .before .before .before .byte-at .ensures .1) (c .area .ensures .1) (c .before .before .most-goals .ensures .1)
+    products (c .before .before .before .horizon .result) (c .area .result) (c .before .before .most-goals .result)
+    (c .before .before .before .horizon .ensures .1) (c .area .ensures .1) (c .before .before .most-goals .ensures .1)
 
-byte-at-requires : tie.Need-byte-at-requires
-byte-at-requires c κs = search needs
+horizon-requires : tie.Need-horizon-requires
+horizon-requires c κs = search needs
 
 add-layers : tie.Need-add-layers
 add-layers c = search needs
@@ -35,8 +35,8 @@ most-goals-requires c κs = search needs
 add-labels : tie.Need-add-labels
 add-labels c = search needs
 
-word-at-requires : tie.Need-word-at-requires
-word-at-requires c κs = search needs
+limit-requires : tie.Need-limit-requires
+limit-requires c κs = search needs
 
 mul-result : tie.Need-mul-result
 mul-result c = search needs
@@ -59,18 +59,18 @@ add-result-2 c = omega (arith, small c)
 returns : tie.Need-returns
 returns c =
     let s = c .before .before .before .before .before .args .s .now in
-    let e = formula s (c .before .word-at .ensures .0) (c .before .before .before .byte-at .ensures .0) (c .area .ensures .0) (c .before .before .most-goals .ensures .0) in
+    let e = formula s (c .before .limit .ensures .0) (c .before .before .before .horizon .ensures .0) (c .area .ensures .0) (c .before .before .most-goals .ensures .0) in
     (e, λ ok. rw e (workspace-bound s ok))
 
 pub workspace-spec : {M : Type 1} → statement M
 workspace-spec =
     tie.close
     (tie.spec
-    byte-at-requires
+    horizon-requires
     add-layers
     most-goals-requires
     add-labels
-    word-at-requires
+    limit-requires
     mul-result
     area-requires
     mul-result-2

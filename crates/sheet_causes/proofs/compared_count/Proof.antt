@@ -18,8 +18,8 @@ stretch-requires c κs = search needs
 enum-told-2 : tie.Need-enum-told-2
 enum-told-2 c = search needs
 
-byte-at-requires : tie.Need-byte-at-requires
-byte-at-requires c κs = search needs
+count-requires : tie.Need-count-requires
+count-requires c κs = search needs
 
 returns : tie.Need-returns
 returns c =
@@ -31,10 +31,10 @@ returns c =
 returns-2 : tie.Need-returns-2
 returns-2 c =
     let s = c .before .before .before .before .args .s .now in (
-      rw (c .before .enum-told2 .given .1, c .byte-at .ensures .0) (sym (each-task-length (last 0) s)),
-      omega (arith, c .byte-at .ensures .1),
+      rw (c .before .enum-told2 .given .1, c .count .ensures .0) (sym (each-task-length (last 0) s)),
+      omega (arith, c .count .ensures .1),
     )
 
 pub compared-count-spec : {M : Type 1} → statement M
 compared-count-spec =
-    tie.close (tie.spec enum-told stretch-requires enum-told-2 byte-at-requires returns returns-2)
+    tie.close (tie.spec enum-told stretch-requires enum-told-2 count-requires returns returns-2)

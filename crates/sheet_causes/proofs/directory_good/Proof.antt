@@ -13,17 +13,8 @@ use borrow.Author.Needs.{needs}
 use Rattle.sheet_causes.proofs.directory_good.Statement.{statement}
 use Rattle.sheet_causes.proofs.directory_good.Tie as tie
 
-byte-at-requires : tie.Need-byte-at-requires
-byte-at-requires c κs = search needs
-
-add-if1 : tie.Need-add-if1
-add-if1 c = search needs
-
-mul-if1 : tie.Need-mul-if1
-mul-if1 c = search needs
-
-add-if1-2 : tie.Need-add-if1-2
-add-if1-2 c = search needs
+directory-end-requires : tie.Need-directory-end-requires
+directory-end-requires c κs = search needs
 
 pairs-chained-requires : tie.Need-pairs-chained-requires
 pairs-chained-requires c κs = search needs
@@ -36,6 +27,9 @@ area-requires c κs = search needs
 
 pair-size-requires-2 : tie.Need-pair-size-requires-2
 pair-size-requires-2 c κs = search needs
+
+count-requires : tie.Need-count-requires
+count-requires c κs = search needs
 
 mul-if4 : tie.Need-mul-if4
 mul-if4 c = search needs
@@ -54,7 +48,7 @@ abbrev s3 : tie.Else3 → List ℕ
 s3 c = s2 (c .before .before .before)
 
 abbrev s4 : tie.Else4 → List ℕ
-s4 c = s3 (c .before .before)
+s4 c = s3 (c .before .before .before)
 
 abbrev upTo1 : List ℕ → Bool
 upTo1 s = leb (directoryEnd s) (length s)
@@ -82,7 +76,7 @@ passed3 c =
 passed4 : (c : tie.Else4) → upTo4 (s4 c) ≡ true
 passed4 c =
     let s = s4 c in
-    rw (passed3 (c .before .before), eq-eqb (startsStretch s .size) (2 * countOf s) (omega arith)) refl
+    rw (passed3 (c .before .before .before), eq-eqb (startsStretch s .size) (2 * countOf s) (omega arith)) refl
 
 returns : tie.Need-returns
 unfolding goodDirectory
@@ -105,8 +99,8 @@ returns-3 c =
 returns-4 : tie.Need-returns-4
 unfolding goodDirectory
 returns-4 c =
-    let s = s3 (c .before .before) in
-    rw (passed3 (c .before .before), ne-eqb (startsStretch s .size) (2 * countOf s) (λ e. c .if4 .taken (omega arith))) refl
+    let s = s3 (c .before .before .before) in
+    rw (passed3 (c .before .before .before), ne-eqb (startsStretch s .size) (2 * countOf s) (λ e. c .if4 .taken (omega arith))) refl
 
 returns-5 : tie.Need-returns-5
 unfolding goodDirectory
@@ -116,10 +110,7 @@ pub directory-good-spec : {M : Type 1} → statement M
 directory-good-spec =
     tie.close
     (tie.spec
-    byte-at-requires
-    add-if1
-    mul-if1
-    add-if1-2
+    directory-end-requires
     returns
     pairs-chained-requires
     returns-2
@@ -127,6 +118,7 @@ directory-good-spec =
     area-requires
     returns-3
     pair-size-requires-2
+    count-requires
     mul-if4
     returns-4
     sizes-good-requires

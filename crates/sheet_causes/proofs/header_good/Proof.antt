@@ -14,32 +14,32 @@ use borrow.Author.Needs.{needs}
 use Rattle.sheet_causes.proofs.header_good.Statement.{statement}
 use Rattle.sheet_causes.proofs.header_good.Tie as tie
 
-byte-at-requires : tie.Need-byte-at-requires
-byte-at-requires c κs = search needs
+width-requires : tie.Need-width-requires
+width-requires c κs = search needs
 
 in-range-requires : tie.Need-in-range-requires
 in-range-requires c κs = search needs
 
-byte-at-requires-2 : tie.Need-byte-at-requires-2
-byte-at-requires-2 c κs = search needs
+height-requires : tie.Need-height-requires
+height-requires c κs = search needs
 
 in-range-requires-2 : tie.Need-in-range-requires-2
 in-range-requires-2 c κs = search needs
 
-byte-at-requires-3 : tie.Need-byte-at-requires-3
-byte-at-requires-3 c κs = search needs
+count-requires : tie.Need-count-requires
+count-requires c κs = search needs
 
 in-range-requires-3 : tie.Need-in-range-requires-3
 in-range-requires-3 c κs = search needs
 
-word-at-requires : tie.Need-word-at-requires
-word-at-requires c κs = search needs
+limit-requires : tie.Need-limit-requires
+limit-requires c κs = search needs
 
 in-range-requires-4 : tie.Need-in-range-requires-4
 in-range-requires-4 c κs = search needs
 
-word-at-requires-2 : tie.Need-word-at-requires-2
-word-at-requires-2 c κs = search needs
+word-at-requires : tie.Need-word-at-requires
+word-at-requires c κs = search needs
 
 -- the sheet, and the tests that have passed
 abbrev s1 : tie.Else1 → List ℕ
@@ -71,16 +71,16 @@ upTo5 s = upTo4 s && within 1 4096 (limitOf s)
 
 -- what the code has tested
 width-flag : (c : tie.After-in-range) → c .in-range .result ≡ within 1 32 (widthOf (c .before .before .before .args .s .now))
-width-flag c = c .in-range .ensures ∙ ap (within 1 32) (c .before .byte-at .ensures .0)
+width-flag c = c .in-range .ensures ∙ ap (within 1 32) (c .before .width .ensures .0)
 
 height-flag : (c : tie.After-in-range2) → c .in-range2 .result ≡ within 1 32 (heightOf (s1 (c .before .before)))
-height-flag c = c .in-range2 .ensures ∙ ap (within 1 32) (c .before .byte-at2 .ensures .0)
+height-flag c = c .in-range2 .ensures ∙ ap (within 1 32) (c .before .height .ensures .0)
 
 count-flag : (c : tie.After-in-range3) → c .in-range3 .result ≡ within 1 12 (countOf (s2 (c .before .before)))
-count-flag c = c .in-range3 .ensures ∙ ap (within 1 12) (c .before .byte-at3 .ensures .0)
+count-flag c = c .in-range3 .ensures ∙ ap (within 1 12) (c .before .count .ensures .0)
 
 limit-flag : (c : tie.After-in-range4) → c .in-range4 .result ≡ within 1 4096 (limitOf (s3 (c .before .before)))
-limit-flag c = c .in-range4 .ensures ∙ ap (within 1 4096) (c .before .word-at .ensures .0)
+limit-flag c = c .in-range4 .ensures ∙ ap (within 1 4096) (c .before .limit .ensures .0)
 
 passed1 : (c : tie.Else1) → upTo1 (s1 c) ≡ true
 passed1 c = passed (width-flag (c .before)) (c .if1 .left)
@@ -121,23 +121,23 @@ returns-5 : tie.Need-returns-5
 unfolding goodHeader
 returns-5 c =
     let s = s4 (c .before) in
-    rw (passed5 (c .before), c .word-at2 .ensures .0) (zero-word (byteAt s 6) (byteAt s 7))
+    rw (passed5 (c .before), c .word-at .ensures .0) (zero-word (byteAt s 6) (byteAt s 7))
 
 pub header-good-spec : {M : Type 1} → statement M
 header-good-spec =
     tie.close
     (tie.spec
-    byte-at-requires
+    width-requires
     in-range-requires
     returns
-    byte-at-requires-2
+    height-requires
     in-range-requires-2
     returns-2
-    byte-at-requires-3
+    count-requires
     in-range-requires-3
     returns-3
-    word-at-requires
+    limit-requires
     in-range-requires-4
     returns-4
-    word-at-requires-2
+    word-at-requires
     returns-5)

@@ -8,8 +8,8 @@ use borrow.Author.Needs.{needs}
 use Rattle.sheet_parts.proofs.task_part.Statement.{statement}
 use Rattle.sheet_parts.proofs.task_part.Tie as tie
 
-byte-at-requires : tie.Need-byte-at-requires
-byte-at-requires c κs = search needs
+count-requires : tie.Need-count-requires
+count-requires c κs = search needs
 
 add-stretch : tie.Need-add-stretch
 add-stretch c = search needs
@@ -45,7 +45,7 @@ pub task-part-spec : {M : Type 1} → statement M
 task-part-spec =
     tie.close
     (tie.spec
-    byte-at-requires
+    count-requires
     add-stretch
     stretch-requires
     sub-result

@@ -17,8 +17,8 @@ loop-holds c = search needs
 add-loop : tie.Need-add-loop Inv-loop μ-loop
 add-loop c = search needs
 
-word-at-requires : tie.Need-word-at-requires Inv-loop μ-loop
-word-at-requires c κs = search needs
+number-at-requires : tie.Need-number-at-requires Inv-loop μ-loop
+number-at-requires c κs = search needs
 
 add-start : tie.Need-add-start Inv-loop μ-loop
 add-start c = search needs
@@ -64,7 +64,7 @@ lines-spec =
     μ-loop
     loop-holds
     add-loop
-    word-at-requires
+    number-at-requires
     add-start
     sub-if1
     returns

@@ -1,14 +1,15 @@
 -- `sheet_test::pairs` is safe and ends: the measure is what is left. Assumes nothing.
 use Prim.Native.Nat.{_≤_, _-_}
+use Rattle.deck.specs.Calls.{mostPairs}
 use borrow.Author.Needs.{needs}
 use Rattle.sheet_test.proofs.pairs.Statement.{statement}
 use Rattle.sheet_test.proofs.pairs.Tie as tie
 
 abbrev Inv-loop : tie.InvT-loop
-Inv-loop offsets lengths k₀ k = k ≤ 14
+Inv-loop offsets lengths k₀ k = k ≤ mostPairs
 
 abbrev μ-loop : tie.MeasureT-loop
-μ-loop offsets lengths k₀ k = 14 - k
+μ-loop offsets lengths k₀ k = mostPairs - k
 
 part-requires : tie.Need-part-requires Inv-loop μ-loop
 part-requires c κs = search needs

@@ -14,34 +14,34 @@ use Rattle.trace.proofs.next_place.Statement.{statement}
 use Rattle.trace.proofs.next_place.Tie as tie
 
 -- the width that is read
-wide : (c : tie.After-byte-at) → c .byte-at .result ≡ read (c .before .before .before .before .args .s .now) .width
-wide c = c .byte-at .ensures .0
+wide : (c : tie.After-width) → c .width .result ≡ read (c .before .before .before .before .args .s .now) .width
+wide c = c .width .ensures .0
 
 -- the words of the rows, and of the layers up to the next
-rows : (c : tie.After-goal-count) → (c .before .before .byte-at .result + 2) * c .before .byte-at2 .result ≤ 1088
+rows : (c : tie.After-goal-count) → (c .before .before .width .result + 2) * c .before .height .result ≤ 1088
 rows c =
     let s = c .before .before .before .before .before .before in
-    code-rows (s .args .s .now) (s .args .i) (s .args .j) (s .args .mask .now) (s .args .records .now) (s .pre .0) _ _ (wide (c .before .before)) (c .before .byte-at2 .ensures .0)
+    code-rows (s .args .s .now) (s .args .i) (s .args .j) (s .args .mask .now) (s .args .records .now) (s .pre .0) _ _ (wide (c .before .before)) (c .before .height .ensures .0)
 
-times : (c : tie.After-goal-count) → (c .before .before .before .before .before .before .args .t + 1) * (((c .before .before .byte-at .result + 2) * c .before .byte-at2 .result + 3) / 4) ≤ 69360
+times : (c : tie.After-goal-count) → (c .before .before .before .before .before .before .args .t + 1) * (((c .before .before .width .result + 2) * c .before .height .result + 3) / 4) ≤ 69360
 times c =
     let s = c .before .before .before .before .before .before in
-    code-times (s .args .s .now) (s .args .i) (s .args .j) (s .args .mask .now) (s .args .records .now) (s .pre .0) _ _ (wide (c .before .before)) (c .before .byte-at2 .ensures .0) (s .args .t + 1) (omega (arith, s .pre .2, s .pre .3))
+    code-times (s .args .s .now) (s .args .i) (s .args .j) (s .args .mask .now) (s .args .records .now) (s .pre .0) _ _ (wide (c .before .before)) (c .before .height .ensures .0) (s .args .t + 1) (omega (arith, s .pre .2, s .pre .3))
 
 -- what is read around the place
-seen : (c : tie.After-pad) → Seen (c .before .before .before .before .before .before .before .args .s .now) (c .before .before .before .before .before .before .before .args .i) (c .before .before .before .before .before .before .before .args .j) (c .before .before .before .before .before .before .before .args .mask .now) (c .before .before .before .before .before .before .before .args .records .now) (c .before .before .before .before .before .before .before .pre .0) (c .before .before .before .before .before .before .before .args .heads .now) (c .before .before .before .before .before .before .before .args .work .now) (c .before .before .before .before .before .before .before .args .end) (c .before .before .before .before .before .before .before .args .t) (c .before .before .before .before .before .before .before .args .u) (c .before .before .before .before .before .before .before .args .k) (c .before .before .before .before .before .before .before .pre .1) (c .before .before .before .before .before .before .before .pre .2) (c .before .before .before .before .before .before .before .pre .3) (c .before .before .before .before .before .before .before .pre .4) (c .before .before .before .byte-at .result)
-    (countIn (c .before .before .before .before .before .before .before .args .records .now) + (c .before .before .before .before .before .before .before .args .t + 1) * (((c .before .before .before .byte-at .result + 2) * c .before .before .byte-at2 .result + 3) / 4)) (c .pad .result) (c .before .goal-count .result)
+seen : (c : tie.After-pad) → Seen (c .before .before .before .before .before .before .before .args .s .now) (c .before .before .before .before .before .before .before .args .i) (c .before .before .before .before .before .before .before .args .j) (c .before .before .before .before .before .before .before .args .mask .now) (c .before .before .before .before .before .before .before .args .records .now) (c .before .before .before .before .before .before .before .pre .0) (c .before .before .before .before .before .before .before .args .heads .now) (c .before .before .before .before .before .before .before .args .work .now) (c .before .before .before .before .before .before .before .args .end) (c .before .before .before .before .before .before .before .args .t) (c .before .before .before .before .before .before .before .args .u) (c .before .before .before .before .before .before .before .args .k) (c .before .before .before .before .before .before .before .pre .1) (c .before .before .before .before .before .before .before .pre .2) (c .before .before .before .before .before .before .before .pre .3) (c .before .before .before .before .before .before .before .pre .4) (c .before .before .before .width .result)
+    (countIn (c .before .before .before .before .before .before .before .args .records .now) + (c .before .before .before .before .before .before .before .args .t + 1) * (((c .before .before .before .width .result + 2) * c .before .before .height .result + 3) / 4)) (c .pad .result) (c .before .goal-count .result)
 seen c =
     let s = c .before .before .before .before .before .before .before in
     seen-at (s .args .s .now) (s .args .i) (s .args .j) (s .args .mask .now) (s .args .records .now) (s .pre .0) (s .args .heads .now) (s .args .work .now) (s .args .end) (s .args .t) (s .args .u) (s .args .k) (s .pre .1) (s .pre .2) (s .pre .3) (s .pre .4) (wide (c .before .before .before))
-    (ap₂ (λ (w h : ℕ). countIn (s .args .records .now) + (s .args .t + 1) * (((w + 2) * h + 3) / 4)) (wide (c .before .before .before)) (c .before .before .byte-at2 .ensures .0))
+    (ap₂ (λ (w h : ℕ). countIn (s .args .records .now) + (s .args .t + 1) * (((w + 2) * h + 3) / 4)) (wide (c .before .before .before)) (c .before .before .height .ensures .0))
     (c .pad .ensures) (c .before .goal-count .ensures .0)
 
-byte-at-requires : tie.Need-byte-at-requires
-byte-at-requires c κs = search needs
+width-requires : tie.Need-width-requires
+width-requires c κs = search needs
 
-byte-at-requires-2 : tie.Need-byte-at-requires-2
-byte-at-requires-2 c κs = search needs
+height-requires : tie.Need-height-requires
+height-requires c κs = search needs
 
 goal-count-requires : tie.Need-goal-count-requires
 goal-count-requires c κs = search needs
@@ -99,8 +99,8 @@ pub next-place-spec : {M : Type 1} → statement M
 next-place-spec =
     tie.close
     (tie.spec
-    byte-at-requires
-    byte-at-requires-2
+    width-requires
+    height-requires
     goal-count-requires
     add-at
     add-at-2

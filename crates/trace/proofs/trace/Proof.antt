@@ -23,11 +23,11 @@ Inv-loop s i j mask goals records heads work end out₀ w horizon n last u₀ k�
 abbrev μ-loop : tie.MeasureT-loop
 μ-loop s i j mask goals records heads work end out₀ w horizon n last u₀ k₀ t₀ out u k t = end - t
 
-byte-at-requires : tie.Need-byte-at-requires Inv-loop μ-loop
-byte-at-requires c κs = search needs
+width-requires : tie.Need-width-requires Inv-loop μ-loop
+width-requires c κs = search needs
 
-byte-at-requires-2 : tie.Need-byte-at-requires-2 Inv-loop μ-loop
-byte-at-requires-2 c κs = search needs
+horizon-requires : tie.Need-horizon-requires Inv-loop μ-loop
+horizon-requires c κs = search needs
 
 goal-count-requires : tie.Need-goal-count-requires Inv-loop μ-loop
 goal-count-requires c κs = search needs
@@ -39,7 +39,7 @@ start-requires : tie.Need-start-requires Inv-loop μ-loop
 start-requires c κs = search needs
 
 pad-requires : tie.Need-pad-requires Inv-loop μ-loop
-pad-requires c κs = (omega (arith, (c .before .before .before .before .byte-at .ensures .0), wide-one (c .before .before .before .before .before .before .before .before .before .pre .0)), omega (arith, (c .before .before .before .before .byte-at .ensures .0), wide-most (c .before .before .before .before .before .before .before .before .before .pre .0)), omega (arith, c .start .ensures .1 .0 (c .before .before .before .before .before .before .before .before .before .pre .0 .accepted), area-range (c .before .before .before .before .before .before .before .before .before .args .s .now) (c .before .before .before .before .before .before .before .before .before .pre .0 .accepted) .1))
+pad-requires c κs = (omega (arith, (c .before .before .before .before .width .ensures .0), wide-one (c .before .before .before .before .before .before .before .before .before .pre .0)), omega (arith, (c .before .before .before .before .width .ensures .0), wide-most (c .before .before .before .before .before .before .before .before .before .pre .0)), omega (arith, c .start .ensures .1 .0 (c .before .before .before .before .before .before .before .before .before .pre .0 .accepted), area-range (c .before .before .before .before .before .before .before .before .before .args .s .now) (c .before .before .before .before .before .before .before .before .before .pre .0 .accepted) .1))
 
 visit-requires : tie.Need-visit-requires Inv-loop μ-loop
 visit-requires c κs = (omega (arith, (c .before .before .before .goal-count .ensures .0), few-goals (c .before .before .before .before .before .before .before .before .before .before .pre .0)), omega arith)
@@ -51,13 +51,13 @@ slice-write-out : tie.Need-slice-write-out Inv-loop μ-loop
 slice-write-out c = omega (arith, c .before .before .before .before .before .before .before .before .before .before .before .before .pre .5)
 
 loop-holds : tie.Need-loop-holds Inv-loop μ-loop
-loop-holds c = (omega arith, traced-first (read (c .before .before .before .before .before .before .before .before .before .before .before .before .args .s .now)) (c .before .before .before .before .before .before .before .before .before .before .before .before .args .i) (c .before .before .before .before .before .before .before .before .before .before .before .before .args .j) (constraintsOf (c .before .before .before .before .before .before .before .before .before .before .before .before .args .records .now)) (c .before .before .before .before .before .before .before .before .before .before .before .before .args .end) _ (first-on-time (read (c .before .before .before .before .before .before .before .before .before .before .before .before .args .s .now)) (c .before .before .before .before .before .before .before .before .before .before .before .before .args .i) (c .before .before .before .before .before .before .before .before .before .before .before .before .args .j) (constraintsOf (c .before .before .before .before .before .before .before .before .before .before .before .before .args .records .now)) (begins-free (c .before .before .before .before .before .before .before .before .before .before .before .before .pre .0)) (ends-free (c .before .before .before .before .before .before .before .before .before .before .before .before .pre .0)) (in-time (c .before .before .before .before .before .before .before .before .before .before .before .before .pre .0)) (c .before .before .before .before .before .before .before .before .before .before .before .before .args .end) (c .before .before .before .before .before .before .before .before .before .before .before .before .pre .4) (c .before .before .before .before .before .before .before .before .before .before .before .before .pre .3)) (c .before .before .before .start .ensures .0) (visited-up _ (omega (arith, (c .before .before .before .before .before .before .before .byte-at .ensures .0), wide-one (c .before .before .before .before .before .before .before .before .before .before .before .before .pre .0))) (goalsOf (read (c .before .before .before .before .before .before .before .before .before .before .before .before .args .s .now)) (c .before .before .before .before .before .before .before .before .before .before .before .before .args .j)) (c .before .before .before .before .before .before .before .before .before .before .before .before .args .goals .now) _ (startOf (read (c .before .before .before .before .before .before .before .before .before .before .before .before .args .s .now)) (c .before .before .before .before .before .before .before .before .before .before .before .before .args .i)) _ 0 _ (forth-at (c .before .before .before .before .before .before .before .before .before .before .before .before .args .s .now) (c .before .before .before .before .before .before .before .before .before .before .before .before .args .i) (c .before .before .before .before .before .before .before .before .before .before .before .before .args .j) (c .before .before .before .before .before .before .before .before .before .before .before .before .args .mask .now) (c .before .before .before .before .before .before .before .before .before .before .before .before .args .records .now) (c .before .before .before .before .before .before .before .before .before .before .before .before .pre .0) _ _ (c .before .before .before .before .before .before .before .byte-at .ensures .0) (c .before .before .before .before .before .goal-count .ensures .0) (c .before .before .before .before .before .before .before .before .before .before .before .before .args .goals .now) (c .before .before .before .before .before .before .before .before .before .before .before .before .pre .1)) (c .before .before .pad .ensures ∙ ap (padOf _) (c .before .before .before .start .ensures .0)) (c .before .visit .ensures)))
+loop-holds c = (omega arith, traced-first (read (c .before .before .before .before .before .before .before .before .before .before .before .before .args .s .now)) (c .before .before .before .before .before .before .before .before .before .before .before .before .args .i) (c .before .before .before .before .before .before .before .before .before .before .before .before .args .j) (constraintsOf (c .before .before .before .before .before .before .before .before .before .before .before .before .args .records .now)) (c .before .before .before .before .before .before .before .before .before .before .before .before .args .end) _ (first-on-time (read (c .before .before .before .before .before .before .before .before .before .before .before .before .args .s .now)) (c .before .before .before .before .before .before .before .before .before .before .before .before .args .i) (c .before .before .before .before .before .before .before .before .before .before .before .before .args .j) (constraintsOf (c .before .before .before .before .before .before .before .before .before .before .before .before .args .records .now)) (begins-free (c .before .before .before .before .before .before .before .before .before .before .before .before .pre .0)) (ends-free (c .before .before .before .before .before .before .before .before .before .before .before .before .pre .0)) (in-time (c .before .before .before .before .before .before .before .before .before .before .before .before .pre .0)) (c .before .before .before .before .before .before .before .before .before .before .before .before .args .end) (c .before .before .before .before .before .before .before .before .before .before .before .before .pre .4) (c .before .before .before .before .before .before .before .before .before .before .before .before .pre .3)) (c .before .before .before .start .ensures .0) (visited-up _ (omega (arith, (c .before .before .before .before .before .before .before .width .ensures .0), wide-one (c .before .before .before .before .before .before .before .before .before .before .before .before .pre .0))) (goalsOf (read (c .before .before .before .before .before .before .before .before .before .before .before .before .args .s .now)) (c .before .before .before .before .before .before .before .before .before .before .before .before .args .j)) (c .before .before .before .before .before .before .before .before .before .before .before .before .args .goals .now) _ (startOf (read (c .before .before .before .before .before .before .before .before .before .before .before .before .args .s .now)) (c .before .before .before .before .before .before .before .before .before .before .before .before .args .i)) _ 0 _ (forth-at (c .before .before .before .before .before .before .before .before .before .before .before .before .args .s .now) (c .before .before .before .before .before .before .before .before .before .before .before .before .args .i) (c .before .before .before .before .before .before .before .before .before .before .before .before .args .j) (c .before .before .before .before .before .before .before .before .before .before .before .before .args .mask .now) (c .before .before .before .before .before .before .before .before .before .before .before .before .args .records .now) (c .before .before .before .before .before .before .before .before .before .before .before .before .pre .0) _ _ (c .before .before .before .before .before .before .before .width .ensures .0) (c .before .before .before .before .before .goal-count .ensures .0) (c .before .before .before .before .before .before .before .before .before .before .before .before .args .goals .now) (c .before .before .before .before .before .before .before .before .before .before .before .before .pre .1)) (c .before .before .pad .ensures ∙ ap (padOf _) (c .before .before .before .start .ensures .0)) (c .before .visit .ensures)))
 
 next-place-requires : tie.Need-next-place-requires Inv-loop μ-loop
 next-place-requires c κs = (c .before .before .before .before .before .before .before .before .before .before .before .before .before .before .pre .0, c .before .before .before .before .before .before .before .before .before .before .before .before .before .before .pre .2, c .loop-test .taken, c .before .before .before .before .before .before .before .before .before .before .before .before .before .before .pre .3, c .before .loop .inv .1 .time)
 
 pad-requires-2 : tie.Need-pad-requires-2 Inv-loop μ-loop
-pad-requires-2 c κs = let o = (next-time (read (c .before .before .before .before .before .before .before .before .before .before .before .before .before .before .before .args .s .now)) (c .before .before .before .before .before .before .before .before .before .before .before .before .before .before .before .args .i) (c .before .before .before .before .before .before .before .before .before .before .before .before .before .before .before .args .j) (constraintsOf (c .before .before .before .before .before .before .before .before .before .before .before .before .before .before .before .args .records .now)) (c .before .before .before .before .before .before .before .before .before .before .before .before .before .before .before .args .end) (begins-free (c .before .before .before .before .before .before .before .before .before .before .before .before .before .before .before .pre .0)) (c .before .before .loop .inv .1) (c .before .loop-test .taken) (c .next-place .ensures) refl) in (omega (arith, (c .before .before .before .before .before .before .before .before .before .before .byte-at .ensures .0), wide-one (c .before .before .before .before .before .before .before .before .before .before .before .before .before .before .before .pre .0)), omega (arith, (c .before .before .before .before .before .before .before .before .before .before .byte-at .ensures .0), wide-most (c .before .before .before .before .before .before .before .before .before .before .before .before .before .before .before .pre .0)), omega (arith, free-meant (read (c .before .before .before .before .before .before .before .before .before .before .before .before .before .before .before .args .s .now)) _ .fact (o .on-free) .on-grid, area-range (c .before .before .before .before .before .before .before .before .before .before .before .before .before .before .before .args .s .now) (c .before .before .before .before .before .before .before .before .before .before .before .before .before .before .before .pre .0 .accepted) .1))
+pad-requires-2 c κs = let o = (next-time (read (c .before .before .before .before .before .before .before .before .before .before .before .before .before .before .before .args .s .now)) (c .before .before .before .before .before .before .before .before .before .before .before .before .before .before .before .args .i) (c .before .before .before .before .before .before .before .before .before .before .before .before .before .before .before .args .j) (constraintsOf (c .before .before .before .before .before .before .before .before .before .before .before .before .before .before .before .args .records .now)) (c .before .before .before .before .before .before .before .before .before .before .before .before .before .before .before .args .end) (begins-free (c .before .before .before .before .before .before .before .before .before .before .before .before .before .before .before .pre .0)) (c .before .before .loop .inv .1) (c .before .loop-test .taken) (c .next-place .ensures) refl) in (omega (arith, (c .before .before .before .before .before .before .before .before .before .before .width .ensures .0), wide-one (c .before .before .before .before .before .before .before .before .before .before .before .before .before .before .before .pre .0)), omega (arith, (c .before .before .before .before .before .before .before .before .before .before .width .ensures .0), wide-most (c .before .before .before .before .before .before .before .before .before .before .before .before .before .before .before .pre .0)), omega (arith, free-meant (read (c .before .before .before .before .before .before .before .before .before .before .before .before .before .before .before .args .s .now)) _ .fact (o .on-free) .on-grid, area-range (c .before .before .before .before .before .before .before .before .before .before .before .before .before .before .before .args .s .now) (c .before .before .before .before .before .before .before .before .before .before .before .before .before .before .before .pre .0 .accepted) .1))
 
 visit-requires-2 : tie.Need-visit-requires-2 Inv-loop μ-loop
 visit-requires-2 c κs = (omega (arith, (c .before .before .before .before .before .before .before .before .before .goal-count .ensures .0), few-goals (c .before .before .before .before .before .before .before .before .before .before .before .before .before .before .before .before .pre .0)), omega (arith, (c .before .before .before .before .before .before .before .before .before .goal-count .ensures .0), c .before .before .before .loop .inv .1 .time .label))
@@ -81,25 +81,25 @@ loop-less : tie.Need-loop-less Inv-loop μ-loop
 loop-less c = omega arith
 
 loop-again : tie.Need-loop-again Inv-loop μ-loop
-loop-again c = (omega arith, traced-next (read (c .before .before .before .before .before .before .before .before .before .before .before .before .before .before .before .before .before .before .args .s .now)) (c .before .before .before .before .before .before .before .before .before .before .before .before .before .before .before .before .before .before .args .i) (c .before .before .before .before .before .before .before .before .before .before .before .before .before .before .before .before .before .before .args .j) (constraintsOf (c .before .before .before .before .before .before .before .before .before .before .before .before .before .before .before .before .before .before .args .records .now)) (c .before .before .before .before .before .before .before .before .before .before .before .before .before .before .before .before .before .before .args .end) (begins-free (c .before .before .before .before .before .before .before .before .before .before .before .before .before .before .before .before .before .before .pre .0)) (c .before .before .before .before .before .loop .inv .1) (c .before .before .before .before .loop-test .taken) (c .before .before .before .next-place .ensures) (visited-up _ (omega (arith, (c .before .before .before .before .before .before .before .before .before .before .before .before .before .byte-at .ensures .0), wide-one (c .before .before .before .before .before .before .before .before .before .before .before .before .before .before .before .before .before .before .pre .0))) (goalsOf (read (c .before .before .before .before .before .before .before .before .before .before .before .before .before .before .before .before .before .before .args .s .now)) (c .before .before .before .before .before .before .before .before .before .before .before .before .before .before .before .before .before .before .args .j)) (c .before .before .before .before .before .before .before .before .before .before .before .before .before .before .before .before .before .before .args .goals .now) _ _ _ (c .before .before .before .before .before .loop .k) _ (forth-at (c .before .before .before .before .before .before .before .before .before .before .before .before .before .before .before .before .before .before .args .s .now) (c .before .before .before .before .before .before .before .before .before .before .before .before .before .before .before .before .before .before .args .i) (c .before .before .before .before .before .before .before .before .before .before .before .before .before .before .before .before .before .before .args .j) (c .before .before .before .before .before .before .before .before .before .before .before .before .before .before .before .before .before .before .args .mask .now) (c .before .before .before .before .before .before .before .before .before .before .before .before .before .before .before .before .before .before .args .records .now) (c .before .before .before .before .before .before .before .before .before .before .before .before .before .before .before .before .before .before .pre .0) _ _ (c .before .before .before .before .before .before .before .before .before .before .before .before .before .byte-at .ensures .0) (c .before .before .before .before .before .before .before .before .before .before .before .goal-count .ensures .0) (c .before .before .before .before .before .before .before .before .before .before .before .before .before .before .before .before .before .before .args .goals .now) (c .before .before .before .before .before .before .before .before .before .before .before .before .before .before .before .before .before .before .pre .1)) (c .before .before .pad2 .ensures) (c .before .visit2 .ensures)) _ (c .narrow2 .ensures) (omega (arith, length-set (c .before .before .before .before .before .before .before .before .before .before .before .before .before .before .before .before .before .before .args .out .now) 0 (c .before .before .before .before .before .before .narrow .result), c .before .before .before .before .before .before .before .before .before .before .before .before .before .before .before .before .before .before .pre .5, c .before .before .before .before .before .before .before .before .before .before .before .before .before .before .before .before .before .before .pre .3, c .before .before .before .before .loop-test .taken)))
+loop-again c = (omega arith, traced-next (read (c .before .before .before .before .before .before .before .before .before .before .before .before .before .before .before .before .before .before .args .s .now)) (c .before .before .before .before .before .before .before .before .before .before .before .before .before .before .before .before .before .before .args .i) (c .before .before .before .before .before .before .before .before .before .before .before .before .before .before .before .before .before .before .args .j) (constraintsOf (c .before .before .before .before .before .before .before .before .before .before .before .before .before .before .before .before .before .before .args .records .now)) (c .before .before .before .before .before .before .before .before .before .before .before .before .before .before .before .before .before .before .args .end) (begins-free (c .before .before .before .before .before .before .before .before .before .before .before .before .before .before .before .before .before .before .pre .0)) (c .before .before .before .before .before .loop .inv .1) (c .before .before .before .before .loop-test .taken) (c .before .before .before .next-place .ensures) (visited-up _ (omega (arith, (c .before .before .before .before .before .before .before .before .before .before .before .before .before .width .ensures .0), wide-one (c .before .before .before .before .before .before .before .before .before .before .before .before .before .before .before .before .before .before .pre .0))) (goalsOf (read (c .before .before .before .before .before .before .before .before .before .before .before .before .before .before .before .before .before .before .args .s .now)) (c .before .before .before .before .before .before .before .before .before .before .before .before .before .before .before .before .before .before .args .j)) (c .before .before .before .before .before .before .before .before .before .before .before .before .before .before .before .before .before .before .args .goals .now) _ _ _ (c .before .before .before .before .before .loop .k) _ (forth-at (c .before .before .before .before .before .before .before .before .before .before .before .before .before .before .before .before .before .before .args .s .now) (c .before .before .before .before .before .before .before .before .before .before .before .before .before .before .before .before .before .before .args .i) (c .before .before .before .before .before .before .before .before .before .before .before .before .before .before .before .before .before .before .args .j) (c .before .before .before .before .before .before .before .before .before .before .before .before .before .before .before .before .before .before .args .mask .now) (c .before .before .before .before .before .before .before .before .before .before .before .before .before .before .before .before .before .before .args .records .now) (c .before .before .before .before .before .before .before .before .before .before .before .before .before .before .before .before .before .before .pre .0) _ _ (c .before .before .before .before .before .before .before .before .before .before .before .before .before .width .ensures .0) (c .before .before .before .before .before .before .before .before .before .before .before .goal-count .ensures .0) (c .before .before .before .before .before .before .before .before .before .before .before .before .before .before .before .before .before .before .args .goals .now) (c .before .before .before .before .before .before .before .before .before .before .before .before .before .before .before .before .before .before .pre .1)) (c .before .before .pad2 .ensures) (c .before .visit2 .ensures)) _ (c .narrow2 .ensures) (omega (arith, length-set (c .before .before .before .before .before .before .before .before .before .before .before .before .before .before .before .before .before .before .args .out .now) 0 (c .before .before .before .before .before .before .narrow .result), c .before .before .before .before .before .before .before .before .before .before .before .before .before .before .before .before .before .before .pre .5, c .before .before .before .before .before .before .before .before .before .before .before .before .before .before .before .before .before .before .pre .3, c .before .before .before .before .loop-test .taken)))
 
 add-stay : tie.Need-add-stay Inv-loop μ-loop
 add-stay c = omega (arith, c .before .before .before .before .before .before .before .before .before .before .before .before .before .before .before .pre .3, horizon-most (c .before .before .before .before .before .before .before .before .before .before .before .before .before .before .before .pre .0))
 
 add-stay-2 : tie.Need-add-stay-2 Inv-loop μ-loop
-add-stay-2 c = omega (arith, c .before .before .before .before .before .before .before .before .before .byte-at2 .ensures .1)
+add-stay-2 c = omega (arith, c .before .before .before .before .before .before .before .before .before .horizon .ensures .1)
 
 narrow-requires-3 : tie.Need-narrow-requires-3 Inv-loop μ-loop
 narrow-requires-3 c κs = c .before .before .before .before .before .before .before .last-goal .ensures .1 .1
 
 stay-requires : tie.Need-stay-requires Inv-loop μ-loop
-stay-requires c κs = (omega (arith, c .before .before .before .before .before .before .before .before .before .before .byte-at2 .ensures .0, c .before .before .before .before .before .before .before .before .before .before .before .before .before .before .before .before .pre .3), omega (arith, c .before .before .before .before .before .before .before .before .before .before .byte-at2 .ensures .0, c .before .before .before .before .before .before .before .before .before .before .before .before .before .before .before .before .pre .5, c .before .before .before .loop .inv .1 .written .size, length-set (c .before .before .before .before .before .before .before .before .before .before .before .before .before .before .before .before .args .out .now) 0 (c .before .before .before .before .narrow .result)))
+stay-requires c κs = (omega (arith, c .before .before .before .before .before .before .before .before .before .before .horizon .ensures .0, c .before .before .before .before .before .before .before .before .before .before .before .before .before .before .before .before .pre .3), omega (arith, c .before .before .before .before .before .before .before .before .before .before .horizon .ensures .0, c .before .before .before .before .before .before .before .before .before .before .before .before .before .before .before .before .pre .5, c .before .before .before .loop .inv .1 .written .size, length-set (c .before .before .before .before .before .before .before .before .before .before .before .before .before .before .before .before .args .out .now) 0 (c .before .before .before .before .narrow .result)))
 
 same-length : tie.Need-same-length Inv-loop μ-loop
 same-length c = c .before .before .stay .kept .0 ∙ c .before .before .before .before .before .before .loop .inv .1 .written .size ∙ length-set (c .before .before .before .before .before .before .before .before .before .before .before .before .before .before .before .before .before .before .before .args .out .now) 0 (c .before .before .before .before .before .before .before .narrow .result)
 
 returns : tie.Need-returns Inv-loop μ-loop
-returns c = all-written (read (c .before .before .before .before .before .before .before .before .before .before .before .before .before .before .before .before .before .before .before .args .s .now)) (c .before .before .before .before .before .before .before .before .before .before .before .before .before .before .before .before .before .before .before .args .i) (c .before .before .before .before .before .before .before .before .before .before .before .before .before .before .before .before .before .before .before .args .j) (constraintsOf (c .before .before .before .before .before .before .before .before .before .before .before .before .before .before .before .before .before .before .before .args .records .now)) (c .before .before .before .before .before .before .before .before .before .before .before .before .before .before .before .before .before .before .before .args .end) (c .before .before .before .before .before .before .before .before .before .before .before .before .before .before .before .before .before .before .before .pre .3) (c .before .before .before .before .before .before .before .before .before .before .before .before .before .before .before .before .before .before .before .args .out .now) _ _ _ _ _ (c .before .before .before .before .before .before .before .narrow .result) _ _ _ _ (c .before .before .before .before .before .before .before .before .before .before .before .before .before .before .before .before .before .before .before .pre .5) refl (c .before .before .before .before .before .before .before .narrow .ensures ∙ (c .before .before .before .before .before .before .before .before .before .before .start .ensures .0)) (c .before .before .before .before .before .before .loop .inv .1) (omega arith) (c .before .before .stay .ensures) refl (omega (arith, c .before .before .before .before .before .before .before .before .before .before .before .before .before .byte-at2 .ensures .0)) (c .before .before .before .narrow3 .ensures ∙ (c .before .before .before .before .before .before .before .before .before .before .before .last-goal .ensures .0))
+returns c = all-written (read (c .before .before .before .before .before .before .before .before .before .before .before .before .before .before .before .before .before .before .before .args .s .now)) (c .before .before .before .before .before .before .before .before .before .before .before .before .before .before .before .before .before .before .before .args .i) (c .before .before .before .before .before .before .before .before .before .before .before .before .before .before .before .before .before .before .before .args .j) (constraintsOf (c .before .before .before .before .before .before .before .before .before .before .before .before .before .before .before .before .before .before .before .args .records .now)) (c .before .before .before .before .before .before .before .before .before .before .before .before .before .before .before .before .before .before .before .args .end) (c .before .before .before .before .before .before .before .before .before .before .before .before .before .before .before .before .before .before .before .pre .3) (c .before .before .before .before .before .before .before .before .before .before .before .before .before .before .before .before .before .before .before .args .out .now) _ _ _ _ _ (c .before .before .before .before .before .before .before .narrow .result) _ _ _ _ (c .before .before .before .before .before .before .before .before .before .before .before .before .before .before .before .before .before .before .before .pre .5) refl (c .before .before .before .before .before .before .before .narrow .ensures ∙ (c .before .before .before .before .before .before .before .before .before .before .start .ensures .0)) (c .before .before .before .before .before .before .loop .inv .1) (omega arith) (c .before .before .stay .ensures) refl (omega (arith, c .before .before .before .before .before .before .before .before .before .before .before .before .before .horizon .ensures .0)) (c .before .before .before .narrow3 .ensures ∙ (c .before .before .before .before .before .before .before .before .before .before .before .last-goal .ensures .0))
 
 pub trace-spec : {M : Type 1} → statement M
 trace-spec =
@@ -107,8 +107,8 @@ trace-spec =
     (tie.spec
     Inv-loop
     μ-loop
-    byte-at-requires
-    byte-at-requires-2
+    width-requires
+    horizon-requires
     goal-count-requires
     last-goal-requires
     start-requires

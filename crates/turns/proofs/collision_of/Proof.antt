@@ -10,14 +10,14 @@ use Rattle.turns.proofs.Turning.{node-collision}
 use Rattle.turns.proofs.collision_of.Statement.{statement}
 use Rattle.turns.proofs.collision_of.Tie as tie
 
-byte-at-requires : tie.Need-byte-at-requires
-byte-at-requires c κs = search needs
+width-requires : tie.Need-width-requires
+width-requires c κs = search needs
 
-byte-at-requires-2 : tie.Need-byte-at-requires-2
-byte-at-requires-2 c κs = search needs
+count-requires : tie.Need-count-requires
+count-requires c κs = search needs
 
-byte-at-requires-3 : tie.Need-byte-at-requires-3
-byte-at-requires-3 c κs = search needs
+horizon-requires : tie.Need-horizon-requires
+horizon-requires c κs = search needs
 
 -- the words of all paths fit the array
 words-fit : (m last : ℕ) → m ≤ 12 → last ≤ 255 → m * (last + 1) ≤ 3072
@@ -28,12 +28,12 @@ write-paths-requires c κs =
     let start = c .before .before .before .before .before .before .before in
     let ok = start .pre .0 in
     let s = start .args .s .now in
-    let m = c .before .before .before .byte-at2 .ensures .0 in
-    let last = c .before .before .byte-at3 .ensures .0 in (
+    let m = c .before .before .before .count .ensures .0 in
+    let last = c .before .before .horizon .ensures .0 in (
       start .pre .2,
       omega (arith, m, count-range s ok),
       omega (arith, m, count-range s ok),
-      omega (arith, c .before .before .before .before .byte-at .ensures .0, width-range s ok),
+      omega (arith, c .before .before .before .before .width .ensures .0, width-range s ok),
       omega (arith, last, horizon-range s ok),
       rw (c .write-paths-arg2 .given .0 .1) (words-fit _ _ (omega (arith, m, count-range s ok)) (omega (arith, last, horizon-range s ok))),
     )
@@ -43,26 +43,26 @@ first-among-requires c κs =
     let start = c .before .before .before .before .before .before .before .before .before .before in
     let ok = start .pre .0 in
     let s = start .args .s .now in
-    let m : c .before .before .before .before .before .before .byte-at2 .result ≤ 12 = omega (arith, c .before .before .before .before .before .before .byte-at2 .ensures .0, count-range s ok) in
-    let last : c .before .before .before .before .before .byte-at3 .result ≤ 255 = omega (arith, c .before .before .before .before .before .byte-at3 .ensures .0, horizon-range s ok) in
-    (rw (c .before .before .write-paths .kept .1 .1 .1 .1 .1 .1 .0, c .before .before .before .write-paths-arg2 .given .0 .1, ← add-one (c .before .before .before .before .before .byte-at3 .result)) (words-fit _ _ m last), omega arith)
+    let m : c .before .before .before .before .before .before .count .result ≤ 12 = omega (arith, c .before .before .before .before .before .before .count .ensures .0, count-range s ok) in
+    let last : c .before .before .before .before .before .horizon .result ≤ 255 = omega (arith, c .before .before .before .before .before .horizon .ensures .0, horizon-range s ok) in
+    (rw (c .before .before .write-paths .kept .1 .1 .1 .1 .1 .1 .0, c .before .before .before .write-paths-arg2 .given .0 .1, ← add-one (c .before .before .before .before .before .horizon .result)) (words-fit _ _ m last), omega arith)
 
 returns : tie.Need-returns
 returns c =
     let start = c .before .before .before .before .before .before .before .before .before .before .before in
     node-collision (read (start .args .s .now)) (start .args .work .now) (start .args .n) _ _ _ (start .args .starts .now)
-    (c .before .before .before .before .before .before .before .before .byte-at .ensures .0)
-    (c .before .before .before .before .before .before .byte-at3 .ensures .0)
-    (c .before .before .before .before .before .before .before .byte-at2 .ensures .0) (start .pre .1) _ _ _
+    (c .before .before .before .before .before .before .before .before .width .ensures .0)
+    (c .before .before .before .before .before .before .horizon .ensures .0)
+    (c .before .before .before .before .before .before .before .count .ensures .0) (start .pre .1) _ _ _
     (c .before .before .before .write-paths .ensures) (c .first-among .ensures)
 
 pub collision-of-spec : {M : Type 1} → statement M
 collision-of-spec =
     tie.close
     (tie.spec
-    byte-at-requires
-    byte-at-requires-2
-    byte-at-requires-3
+    width-requires
+    count-requires
+    horizon-requires
     write-paths-requires
     first-among-requires
     returns)

@@ -22,27 +22,27 @@ abbrev μ-loop : tie.MeasureT-loop
 
 -- a turn is left
 left : (c : tie.In-loop Inv-loop μ-loop) → c .before .loop .counter < suc (read (c .before .before .before .before .before .before .before .before .before .args .s .now) .limit)
-left c = omega (arith, c .loop-test .taken, c .before .before .before .before .before .word-at .ensures .0)
+left c = omega (arith, c .loop-test .taken, c .before .before .before .before .before .limit .ensures .0)
 
-word-at-requires : tie.Need-word-at-requires Inv-loop μ-loop
-word-at-requires c κs = search needs
+limit-requires : tie.Need-limit-requires Inv-loop μ-loop
+limit-requires c κs = search needs
 
 enter-requires : tie.Need-enter-requires Inv-loop μ-loop
 enter-requires c κs =
     let s = c .before .before .before .before .before .before in
     let ok = s .pre .0 .0 .accepted in
-    let limit = c .before .before .word-at .ensures .0 in (
+    let limit = c .before .before .limit .ensures .0 in (
       (omega arith, omega (arith, limit, limit-range (s .args .s .now) ok), omega (arith, limit, limit-range (s .args .s .now) ok), omega (arith, limit, room-of (s .args .s .now) ok (s .args .work .now) (s .pre .0 .0 .room))),
       lows-none _ _,
     )
 
 add-end : tie.Need-add-end Inv-loop μ-loop
-add-end c = omega (arith, c .before .before .before .word-at .ensures .1)
+add-end c = omega (arith, c .before .before .before .limit .ensures .1)
 
 loop-holds : tie.Need-loop-holds Inv-loop μ-loop
 loop-holds c =
     let s = c .before .before .before .before .before .before .before in
-    (refl, refl, omega arith, start-going (s .args .s .now) (s .pre .0 .0 .accepted) (s .args .work .now) (s .pre .1 .0) (s .pre .1 .1) (s .pre .1 .2) (s .pre .1 .3), lows-limit _ (c .before .before .before .word-at .ensures .0) (c .enter .ensures))
+    (refl, refl, omega arith, start-going (s .args .s .now) (s .pre .0 .0 .accepted) (s .args .work .now) (s .pre .1 .0) (s .pre .1 .1) (s .pre .1 .2) (s .pre .1 .3), lows-limit _ (c .before .before .before .limit .ensures .0) (c .enter .ensures))
 
 slice-aggregate-turn : tie.Need-slice-aggregate-turn Inv-loop μ-loop
 slice-aggregate-turn c = search needs
@@ -63,7 +63,7 @@ enter-requires-2 : tie.Need-enter-requires-2 Inv-loop μ-loop
 enter-requires-2 c κs =
     let s = c .before .before .before .before .before .before .before .before .before .before .before .before .before .before .before .before .before .before .before .before .before .before .before in
     let ok = s .pre .0 .0 .accepted in
-    let limit = c .before .before .before .before .before .before .before .before .before .before .before .before .before .before .before .before .before .before .before .word-at .ensures .0 in
+    let limit = c .before .before .before .before .before .before .before .before .before .before .before .before .before .before .before .before .before .before .before .limit .ensures .0 in
     let loop = c .before .before .before .before .before .before .before .before .before .before .before .before .before .before .before .loop in
     let turn = c .before .before .before .before .before .before .before .before .turn in
     let next = going-more (s .args .s .now) (s .pre .0 .0 .accepted) (loop .work) (loop .made) (loop .latest) (loop .counter) (loop .inv .3) (left (c .before .before .before .before .before .before .before .before .before .before .before .before .before .before)) _ (turn .result) (turn .ensures .0) _ _ (c .before .before .before .k .given .1) in (
@@ -116,7 +116,7 @@ returns-3 c =
     going-spent (s .args .s .now) (s .pre .0 .0 .accepted) (loop .work) (loop .made) (loop .latest) (loop .counter) (loop .inv .3) (left (c .before .before .before .before .before .before .before .before .before .before .before .before)) _ (turn .result) (turn .ensures .0) _ (c .before .bound .given .1)
 
 add-counter : tie.Need-add-counter Inv-loop μ-loop
-add-counter c = omega (arith, c .before .before .before .before .before .before .before .before .before .before .before .before .before .before .before .before .before .before .before .before .word-at .ensures .1, c .before .before .before .before .before .before .before .before .before .before .before .before .before .before .before .loop-test .taken)
+add-counter c = omega (arith, c .before .before .before .before .before .before .before .before .before .before .before .before .before .before .before .before .before .before .before .before .limit .ensures .1, c .before .before .before .before .before .before .before .before .before .before .before .before .before .before .before .loop-test .taken)
 
 loop-less : tie.Need-loop-less Inv-loop μ-loop
 loop-less c = omega (arith, c .before .before .before .before .before .before .before .before .before .before .before .before .before .before .before .loop-test .taken)
@@ -130,7 +130,7 @@ loop-again c =
       turn .kept .1 .1 .1 .1 .1 .1 .0 ∙ loop .inv .1,
       omega (arith, c .before .before .before .before .before .before .before .before .before .before .before .before .before .before .before .loop-test .taken),
       going-more (s .args .s .now) (s .pre .0 .0 .accepted) (loop .work) (loop .made) (loop .latest) (loop .counter) (loop .inv .3) (left (c .before .before .before .before .before .before .before .before .before .before .before .before .before .before .before)) _ (turn .result) (turn .ensures .0) _ _ (c .before .before .before .before .k .given .1),
-      lows-limit _ (c .before .before .before .before .before .before .before .before .before .before .before .before .before .before .before .before .before .before .before .before .word-at .ensures .0) (c .enter2 .ensures),
+      lows-limit _ (c .before .before .before .before .before .before .before .before .before .before .before .before .before .before .before .before .before .before .before .before .limit .ensures .0) (c .enter2 .ensures),
     )
 
 same-length-4 : tie.Need-same-length-4 Inv-loop μ-loop
@@ -140,7 +140,7 @@ returns-4 : tie.Need-returns-4 Inv-loop μ-loop
 returns-4 c =
     let s = c .before .before .before .before .before .before .before .before .before in
     let loop = c .before .loop in
-    absurd (going-ends (s .args .s .now) (s .pre .0 .0 .accepted) (loop .work) (loop .made) (loop .latest) (loop .counter) (loop .inv .3) (omega (arith, c .loop-test .left, loop .inv .2, c .before .before .before .before .before .word-at .ensures .0)))
+    absurd (going-ends (s .args .s .now) (s .pre .0 .0 .accepted) (loop .work) (loop .made) (loop .latest) (loop .counter) (loop .inv .3) (omega (arith, c .loop-test .left, loop .inv .2, c .before .before .before .before .before .limit .ensures .0)))
 
 pub run-spec : {M : Type 1} → statement M
 run-spec =
@@ -148,7 +148,7 @@ run-spec =
     (tie.spec
     Inv-loop
     μ-loop
-    word-at-requires
+    limit-requires
     enter-requires
     add-end
     loop-holds

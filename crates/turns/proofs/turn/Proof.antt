@@ -26,7 +26,7 @@ took : (c : tie.After-close) → let s = c .before .before .before .before .befo
     → Took (s .args .s .now) (s .args .work .now) (c .close .last .0) (s .args .made) (c .before .before .before .before .n .given .0 .0) (c .before .before .before .before .n .given .0 .1 .0)
 took c st k turning =
     let s = c .before .before .before .before .before .before .before .before .before .before .before .before .before .before in
-    let limit = c .before .before .before .before .before .before .before .before .before .word-at .ensures .0 in
+    let limit = c .before .before .before .before .before .before .before .before .before .limit .ensures .0 in
     let pick = c .before .before .before .before .before .before .cheapest in
     let is = c .before .before .before .before .n .given .1 in
     record {
@@ -35,14 +35,14 @@ took c st k turning =
       is = c .close .ensures .0 ∙ ap (λ (b : ℕ). withKey b (c .before .before .before .before .n .given .0 .0) closedKey (s .args .work .now)) limit;
     }
 
-word-at-requires : tie.Need-word-at-requires
-word-at-requires c κs = search needs
+limit-requires : tie.Need-limit-requires
+limit-requires c κs = search needs
 
 cheapest-requires : tie.Need-cheapest-requires
 cheapest-requires c κs =
     let s = c .before .before .before .before .before .before .before in
     let ok = s .pre .0 .0 .accepted in
-    let limit = c .before .before .word-at .ensures .0 in (
+    let limit = c .before .before .limit .ensures .0 in (
       (
         omega (arith, limit, s .pre .1 .2 .0 .within),
         omega (arith, limit, limit-range (s .args .s .now) ok),
@@ -66,7 +66,7 @@ returns c =
     let pick = c .before .before .cheapest in (
       λ st k turning.
           turn-nothing (read (s .args .s .now)) (s .args .work .now) (s .args .made) (s .args .latest) k st turning
-          (pick-is (s .args .s .now) (s .pre .0 .0 .accepted) (s .args .work .now) (s .args .made) (s .args .latest) k st turning _ (c .before .before .before .before .before .word-at .ensures .0) (pick .result) _ (pick .ensures .1) (c .enum-told .given .1)),
+          (pick-is (s .args .s .now) (s .pre .0 .0 .accepted) (s .args .work .now) (s .args .made) (s .args .latest) k st turning _ (c .before .before .before .before .before .limit .ensures .0) (pick .result) _ (pick .ensures .1) (c .enum-told .given .1)),
       s .pre .0 .3,
     )
 
@@ -74,7 +74,7 @@ close-requires : tie.Need-close-requires
 close-requires c κs =
     let s = c .before .before .before .before .before .before .before .before .before .before .before .before .before in
     let ok = s .pre .0 .0 .accepted in
-    let limit = c .before .before .before .before .before .before .before .before .word-at .ensures .0 in (
+    let limit = c .before .before .before .before .before .before .before .before .limit .ensures .0 in (
       (
         subst (InRange (s .args .made)) (c .before .before .before .n .given .1) (c .before .before .before .before .before .cheapest .ensures .0),
         omega (arith, limit, s .pre .1 .2 .0 .within),
@@ -104,7 +104,7 @@ returns-2 c =
           took-plan (s .args .s .now) (s .pre .0 .0 .accepted) (s .args .work .now) (s .args .made) (s .args .latest) k st turning (c .before .before .before .before .before .before .close .last .0) _ _
           (took (c .before .before .before .before .before .before) st k turning) (s .pre .0 .0 .room)
           (none-is (λ (r : CollisionAnswer). OneOf (1 ∷ 2 ∷ []) (tagOf the-type r)) (λ x h. ⊎-elim (λ e. omega arith) (λ e. omega arith) h) _ _ (c .before .collision-of .ensures) (c .match2 .keys2)),
-      lows-limit _ (c .before .before .before .before .before .before .before .before .before .before .before .before .before .before .before .word-at .ensures .0) (c .before .before .before .before .before .before .close .ensures .1),
+      lows-limit _ (c .before .before .before .before .before .before .before .before .before .before .before .before .before .before .before .limit .ensures .0) (c .before .before .before .before .before .before .close .ensures .1),
     )
 
 -- the first collision of the node that was taken
@@ -144,14 +144,14 @@ returns-3 c =
       λ st k turning.
           took-turned (s .args .s .now) (s .pre .0 .0 .accepted) (s .args .work .now) (s .args .made) (s .args .latest) k st turning (c .before .before .before .before .before .before .before .before .before .before .before .before .before .before .before .before .close .last .0) _ _
           (took (c .before .before .before .before .before .before .before .before .before .before .before .before .before .before .before .before) st k turning) (s .pre .0 .0 .room) _ (first (c .before .before .before .before .before .before .before .before)) (expanded .last .1 .1 .1 .0) (expanded .result) (expanded .ensures .0),
-      lows-kept (expanded .ensures .1 .keys) (lows-limit _ (c .before .before .before .before .before .before .before .before .before .before .before .before .before .before .before .before .before .before .before .before .before .before .before .before .before .word-at .ensures .0) (c .before .before .before .before .before .before .before .before .before .before .before .before .before .before .before .before .close .ensures .1)),
+      lows-kept (expanded .ensures .1 .keys) (lows-limit _ (c .before .before .before .before .before .before .before .before .before .before .before .before .before .before .before .before .before .before .before .before .before .before .before .before .before .limit .ensures .0) (c .before .before .before .before .before .before .before .before .before .before .before .before .before .before .before .before .close .ensures .1)),
     )
 
 pub turn-spec : {M : Type 1} → statement M
 turn-spec =
     tie.close
     (tie.spec
-    word-at-requires
+    limit-requires
     cheapest-requires
     enum-known-n
     enum-told

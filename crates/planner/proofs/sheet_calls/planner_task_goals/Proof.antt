@@ -14,14 +14,14 @@ returns c =
     let s = c .before .before .before .before in
     goals-refused (s .args .s .now) (s .args .j) (λ e. c .before .if1 .taken (c .before .before .cause .ensures ∙ e))
 
-byte-at-requires : tie.Need-byte-at-requires
-byte-at-requires c κs = search needs
+count-requires : tie.Need-count-requires
+count-requires c κs = search needs
 
 returns-2 : tie.Need-returns-2
 returns-2 c =
     let e = c .before .before .before in
     let s = e .before .before .before in
-    goals-of-none (s .args .s .now) (s .args .j) (sym (e .before .cause .ensures) ∙ e .if1 .left) (omega (arith, c .before .before .byte-at .ensures .0, c .before .if2 .taken))
+    goals-of-none (s .args .s .now) (s .args .j) (sym (e .before .cause .ensures) ∙ e .if1 .left) (omega (arith, c .before .before .count .ensures .0, c .before .if2 .taken))
 
 add-k : tie.Need-add-k
 add-k c = search needs
@@ -37,7 +37,7 @@ returns-3 c =
     let f = c .before .before .before in
     let e = f .before .before in
     let s = e .before .before .before in
-    goals-at (s .args .s .now) (s .args .j) (sym (e .before .cause .ensures) ∙ e .if1 .left) (omega (arith, f .before .byte-at .ensures .0, f .if2 .left))
+    goals-at (s .args .s .now) (s .args .j) (sym (e .before .cause .ensures) ∙ e .if1 .left) (omega (arith, f .before .count .ensures .0, f .if2 .left))
     (c .before .before .pair-offset .ensures .0) (c .before .pair-size .ensures .0)
 
 pub planner-task-goals-spec : {M : Type 1} → statement M
@@ -46,7 +46,7 @@ planner-task-goals-spec =
     (tie.spec
     cause-requires
     returns
-    byte-at-requires
+    count-requires
     returns-2
     add-k
     pair-offset-requires
