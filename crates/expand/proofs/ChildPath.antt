@@ -28,7 +28,7 @@ use Rattle.deck.specs.declared.Constraint.the-variants.{Place, Move}
 use Rattle.meaning.proofs.Lists.{mem-select}
 use Rattle.meaning.specs.Making.{added, addIf, makeWith, makeChild}
 use Rattle.optimal.specs.Plans.{Fits as AllFit, IsLeast}
-use Rattle.optimal.specs.Deck.{Fit, rules}
+use Rattle.optimal.specs.Deck.{rules}
 use Rattle.optimal.proofs.Deck.{laws}
 use Rattle.sheet.proofs.Accepted.{limit-range, count-range, horizon-range}
 use Rattle.kernel.specs.Kernel.{NoEarlier}
@@ -36,11 +36,12 @@ use Rattle.passes.specs.Ready.{Ready}
 use Rattle.records.specs.Record.{fieldsAt, tasksIn, finishesIn, wordsOf, Small}
 use Rattle.records.proofs.Frames.{fields-front}
 use Rattle.nodes.specs.Nodes.{nodeOf, nodeAt, constraintsAt, binds}
-use Rattle.nodes.specs.Stored.{Fits, Good, Linked, Stored, Added, ChildOf}
+use Rattle.meaning.specs.Constraints.{InRange}
+use Rattle.meaning.proofs.Constraints.{bound-below}
+use Rattle.nodes.specs.Stored.{Fits, Linked, Stored, Added, ChildOf}
 use Rattle.nodes.proofs.Chains.{stored-links, stored-linked, constraints-good, chain-few}
 use Rattle.nodes.proofs.Gathers.{records-of}
 use Rattle.nodes.proofs.Grid.{least-bound, least-walk, walk-long}
-use Rattle.nodes.proofs.Makes.{good-bound}
 use Rattle.nodes.proofs.Readers.{accepted-fits, good-small, task-read, finish-read, good-records}
 use Rattle.nodes.proofs.Kept.{front-alike, front-keys, kept-stored, kept-nodes, kept-opened}
 use Rattle.roots.proofs.Begun.{slots-kept-records}
@@ -70,10 +71,6 @@ module _ (d : Sheet) (l : d .limit ≤ 4096) (before after : List ℕ) (made lat
       record { nodes = kept-nodes d (d .limit) before after made (h .stored) (front-alike before after (d .limit) made (h .within) l e) keys; keys = keys }
 
 -- THE SHEET
-good-fit : (d : Sheet) (c : Constraint) → Good d c → Fit d c
-good-fit d (Place a u t) g = g
-good-fit d (Move a u v t) g = g
-
 pub records-room : (d : Sheet) (size : ℕ) → workspaceFor d ≤ size → 512 * d .limit + 4096 ≤ size
 unfolding workspaceFor
 records-room d size h = omega arith
@@ -111,7 +108,7 @@ module _ {s mask work bounds : List ℕ} {made latest n : ℕ} {i : Carrier} {c 
   child-small = good-small d c fits (x .good)
 
   pub carrier-in : i .0 < d .count
-  carrier-in = omega (arith, x .bound, good-bound d c (x .good))
+  carrier-in = omega (arith, x .bound, bound-below d c (x .good))
 
   pub carrier-few : i .0 < 12
   carrier-few = omega (arith, carrier-in, count-range s (x .accepted))
@@ -120,10 +117,10 @@ module _ {s mask work bounds : List ℕ} {made latest n : ℕ} {i : Carrier} {c 
   abbrev own : List Constraint
   own = select (binds i) (c ∷ constraintsAt work n)
 
-  own-good : (k : Constraint) → Mem k own → Good d k
+  own-good : (k : Constraint) → Mem k own → InRange d k
   own-good k u = go (mem-select (binds i) (c ∷ constraintsAt work n) u .0)
     where
-      go : Mem k (c ∷ constraintsAt work n) → Good d k
+      go : Mem k (c ∷ constraintsAt work n) → InRange d k
       go (here e) = rw e (x .good)
       go (there y) = constraints-good stored n (x .below) k y
 
@@ -140,10 +137,10 @@ module _ {s mask work bounds : List ℕ} {made latest n : ℕ} {i : Carrier} {c 
   child-under p q =
       let short : d .horizon < barred = omega (arith, horizon-range s (x .accepted)) in
       let cs : List Constraint = c ∷ nodeAt d work n .constraints in
-      subst (IsLeast (problem d) (rules d) (boundBy c) own-task cs) q (laws d (fits .starts) short .least (boundBy c) own-task cs (good-bound d c (x .good)) all-fit)
+      subst (IsLeast (problem d) (rules d) (boundBy c) own-task cs) q (laws d (fits .starts) short .least (boundBy c) own-task cs (bound-below d c (x .good)) all-fit)
     where
       all-fit : AllFit (problem d) (rules d) (c ∷ nodeAt d work n .constraints)
-      all-fit k (here e) = rw e (good-fit d c (x .good))
+      all-fit k (here e) = rw e (x .good)
       all-fit k (there u) = x .node .fits k u
 
   module _ (rs : List ℕ) (e : rs ≡ each wordsOf own) (j : Task) (je : j ≡ task (getD (tasksIn (fieldsAt work n)) (i .0) 0)) where
@@ -152,7 +149,7 @@ module _ {s mask work bounds : List ℕ} {made latest n : ℕ} {i : Carrier} {c 
 
     task-in : j .0 < countOf s
     unfolding problem
-    task-in = rw task-is (x .node .assigned .tasks (boundBy c) (good-bound d c (x .good)))
+    task-in = rw task-is (x .node .assigned .tasks (boundBy c) (bound-below d c (x .good)))
 
     pub child-ready : Ready s i j mask rs
     child-ready = record {
@@ -184,7 +181,7 @@ module _ {s mask work bounds : List ℕ} {made latest n : ℕ} {i : Carrier} {c 
     child-later bound be p q =
         let under = child-under p (sym child-least ∙ q) in
         let later : finishOf d (task own-task) (pathAt (problem d) (nodeAt d work n .paths) (boundBy c)) ≤ finishOf d (task own-task) p =
-        x .node .least (boundBy c) (good-bound d c (x .good)) .1 p (under .0 .0, λ k u. under .0 .1 k (there u)) in
+        x .node .least (boundBy c) (bound-below d c (x .good)) .1 p (under .0 .0, λ k u. under .0 .1 k (there u)) in
         rw (be ∙ finish-read d work n (d .limit) made fits stored (x .below) record-room (i .0) carrier-in, ← x .bound, task-is) later
 
 -- WHAT THE ANSWER SAYS of the path
@@ -237,7 +234,7 @@ module _ {s mask work bounds : List ℕ} {made latest n : ℕ} {i : Carrier} {c 
     walk = least-walk (read s) (carrier (boundBy c)) (childTask (read s) work n c) (c ∷ nodeAt (read s) work n .constraints) p q
 
     pub path-long : length p ≡ read s .horizon + 1
-    path-long = walk-long (read s) (accepted-fits s (x .accepted)) (boundBy c) (good-bound (read s) c (x .good)) p walk
+    path-long = walk-long (read s) (accepted-fits s (x .accepted)) (boundBy c) (bound-below (read s) c (x .good)) p walk
 
     pub finish-small : (f : ℕ) → f ≡ finishOf (read s) (childTask (read s) work n c) p → f ≤ 255
     unfolding problem

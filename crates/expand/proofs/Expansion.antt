@@ -14,7 +14,7 @@ use Rattle.deck.specs.declared.Carrier.{Carrier}
 use Rattle.deck.specs.declared.Constraint.{Constraint}
 use Rattle.meaning.specs.Making.{andThen, addIf, makeRoot, makeWith, makeChild, makeEach}
 use Rattle.nodes.specs.Nodes.{nodeAt}
-use Rattle.nodes.specs.Stored.{Good}
+use Rattle.meaning.specs.Constraints.{InRange}
 use Rattle.expand.specs.Children.{Branch}
 use Rattle.expand.specs.Held.{Given, Held, Holding, Same, Grew, NodeAt, Nodes}
 use Rattle.expand.specs.declared.Grown.{Grown}
@@ -106,7 +106,7 @@ same-on m p q = record { nodes = λ j h. q .nodes j (omega arith) ∙ p .nodes j
 
 -- THE CHILDREN: what each is made of, the first after the root, the second after the first
 pub first-branch : {s mask table work bounds after : List ℕ} {made latest k l n : ℕ} {i : Carrier} {c : Constraint} {r : Grown} → Given s mask table work bounds → n < made → Holding (read s) work made latest → NodeAt (read s) work n
-    → r ≡ Made k l → RootStep (read s) work after made latest n r → Same (read s) work after made → length after ≡ length work → boundBy c ≡ i .0 → Good (read s) c → Branch s mask after bounds k l n i c
+    → r ≡ Made k l → RootStep (read s) work after made latest n r → Same (read s) work after made → length after ≡ length work → boundBy c ≡ i .0 → InRange (read s) c → Branch s mask after bounds k l n i c
 first-branch {n = n} given b h o e step same long bound good =
     let g = root-held h e n step in
     record {
@@ -122,7 +122,7 @@ first-branch {n = n} given b h o e step same long bound good =
     }
 
 pub second-branch : {s mask work bounds after : List ℕ} {made latest k l n : ℕ} {i j : Carrier} {c b : Constraint} {r : Grown} → Branch s mask work bounds made latest n i c
-    → r ≡ Made k l → ChildStep (read s) work after made latest n c r → Same (read s) work after made → length after ≡ length work → boundBy b ≡ j .0 → Good (read s) b → Branch s mask after bounds k l n j b
+    → r ≡ Made k l → ChildStep (read s) work after made latest n c r → Same (read s) work after made → length after ≡ length work → boundBy b ≡ j .0 → InRange (read s) b → Branch s mask after bounds k l n j b
 second-branch {n = n} {c = c} x e step same long bound good =
     let g = child-held (x .held) e n c step in
     record {

@@ -15,7 +15,7 @@ use Rattle.deck.specs.declared.Task.{Task}
 use Rattle.deck.specs.declared.Constraint.{Constraint}
 use Rattle.bars.specs.Padded.{MaskOf}
 use Rattle.nodes.specs.Nodes.{nodeAt}
-use Rattle.nodes.specs.Stored.{Good}
+use Rattle.meaning.specs.Constraints.{InRange}
 use Rattle.scratch.specs.Bounded.{Bounded}
 use Rattle.expand.specs.Held.{Holding, NodeAt}
 
@@ -29,7 +29,7 @@ pub record Branch (s mask work bounds : List ℕ) (made latest n : ℕ) (i : Car
   pub below : n < made
   pub node : NodeAt (read s) work n
   pub bound : boundBy c ≡ i .0
-  pub good : Good (read s) c
+  pub good : InRange (read s) c
   pub bounded : Bounded (read s) bounds
 
 abbrev pub childTask : Sheet → List ℕ → ℕ → Constraint → Task

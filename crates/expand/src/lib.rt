@@ -16,7 +16,8 @@ ghost use Rattle.deck.specs.declared.Constraint.{Constraint};
 ghost use Rattle.meaning.specs.Making.{added, makeRoot, makeChild, makeEach};
 ghost use Rattle.records.specs.Record.{wordsOf, Small};
 ghost use Rattle.nodes.specs.Nodes.{nodeAt, constraintsAt, binds};
-ghost use Rattle.nodes.specs.Stored.{Good, Linked};
+ghost use Rattle.meaning.specs.Constraints.{InRange};
+ghost use Rattle.nodes.specs.Stored.{Linked};
 ghost use Rattle.expand.specs.Children.{Branch, childTask, childPath};
 ghost use Rattle.scratch.specs.Front.{Front};
 ghost use Rattle.expand.specs.Held.{Given, Held, Holding, Begun, Same, Grew, NodeAt, Nodes};
@@ -250,7 +251,7 @@ pub fn expand(
     bounds: &[u8],
 ) -> Grown
     requires { ⌜ Given (now s) (now mask) (now t) (now work) (now bounds) × (n < made) × (length (now list) ≡ 20480) × Holding (read (now s)) (now work) made latest ⌝ }
-    requires { ⌜ NodeAt (read (now s)) (now work) n × (boundBy (first .constraint) ≡ first .carrier .0) × Good (read (now s)) (first .constraint) × (boundBy (second .constraint) ≡ second .carrier .0) × Good (read (now s)) (second .constraint) ⌝ }
+    requires { ⌜ NodeAt (read (now s)) (now work) n × (boundBy (first .constraint) ≡ first .carrier .0) × InRange (read (now s)) (first .constraint) × (boundBy (second .constraint) ≡ second .carrier .0) × InRange (read (now s)) (second .constraint) ⌝ }
     ensures grew { λ r. ⌜ ((opened : Nodes) (rest : List (List ℕ)) (bound : ℕ) → Held (read (now (s .entry))) (now (work .entry)) made latest (record { opened = opened; made = made; rest = rest }) → Grew (read (now (s .entry))) (now (work .exit)) bound r (makeEach (problem (read (now (s .entry)))) (read (now (s .entry)) .limit) bound (nodeAt (read (now (s .entry))) (now (work .entry)) n) (first .constraint, second .constraint) rest (record { opened = opened; made = made; rest = restAfter (problem (read (now (s .entry)))) (nodeAt (read (now (s .entry))) (now (work .entry)) n .root) rest }))) ⌝ }
     ensures same { λ _. ⌜ Same (read (now (s .entry))) (now (work .entry)) (now (work .exit)) made ⌝ }
 {

@@ -13,5 +13,6 @@ pub mod InOrder
 pub mod Assignments
 pub mod Flowtime
 pub mod PlanCheck
+pub mod Constraints
 pub mod Fuel
 pub mod Limit

@@ -1,3 +1,4 @@
 pub mod Meaning
 pub mod Sorted
 pub mod Making
+pub mod Constraints

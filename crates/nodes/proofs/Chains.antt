@@ -8,7 +8,8 @@ use Rattle.deck.specs.Sheet.{Sheet}
 use Rattle.deck.specs.declared.Constraint.{Constraint}
 use Rattle.records.specs.Record.{fieldsAt, linkIn, ownIn}
 use Rattle.nodes.specs.Nodes.{upward, constraintsFrom, constraintsAt, nodeAt}
-use Rattle.nodes.specs.Stored.{Good, Linked, Stored}
+use Rattle.meaning.specs.Constraints.{InRange}
+use Rattle.nodes.specs.Stored.{Linked, Stored}
 
 -- links of the first `made` records lead to earlier ones
 abbrev pub Links : (ℕ → List (List ℕ)) → ℕ → Type 0
@@ -79,18 +80,18 @@ module _ {d : Sheet} {limit : ℕ} {work : List ℕ} {made : ℕ} (s : Stored d 
   node-same other e n h = rw (e n h, chain-same (fieldsAt work) made stored-links (fieldsAt other) e (suc n) n h)
 
   -- each constraint is one of the sheet, and there are at most n of them
-  good-from : (k n : ℕ) → n < made → (c : Constraint) → Mem c (constraintsFrom k (fieldsAt work) n) → Good d c
+  good-from : (k n : ℕ) → n < made → (c : Constraint) → Mem c (constraintsFrom k (fieldsAt work) n) → InRange d c
   unfolding constraintsFrom
   good-from zero n h c m = absurd (not-nil m)
   good-from (suc k) n h c m = go (linkIn (fieldsAt work n)) refl m (λ p b x. good-from k p b c x)
     where
       go : (l : ℕ) → linkIn (fieldsAt work n) ≡ l → Mem c (upward (ownIn (fieldsAt work n)) l (constraintsFrom k (fieldsAt work)))
-          → ((p : ℕ) → p < made → Mem c (constraintsFrom k (fieldsAt work) p) → Good d c) → Good d c
+          → ((p : ℕ) → p < made → Mem c (constraintsFrom k (fieldsAt work) p) → InRange d c) → InRange d c
       go zero e x ih = absurd (not-nil x)
       go (suc p) e (here q) ih = rw q (s .sound n h .good (omega arith))
       go (suc p) e (there x) ih = ih p (omega (arith, stored-links n h)) x
 
-  pub constraints-good : (n : ℕ) → n < made → (c : Constraint) → Mem c (constraintsAt work n) → Good d c
+  pub constraints-good : (n : ℕ) → n < made → (c : Constraint) → Mem c (constraintsAt work n) → InRange d c
   constraints-good n h c m = good-from (suc n) n h c m
 
 pub chain-few : (f : ℕ → List (List ℕ)) (made k n : ℕ) → Links f made → n < made → length (constraintsFrom k f n) ≤ n

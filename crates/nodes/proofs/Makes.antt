@@ -26,14 +26,11 @@ use Rattle.records.specs.Record.{fields, fieldsAt, linkIn, rootIn, ownIn, tasks
 use Rattle.records.proofs.Frames.{length-field, wrote-then}
 use Rattle.records.proofs.Words.{held-again}
 use Rattle.nodes.specs.Nodes.{upward, constraintsAt, pathOf, pathsOf, assignmentOf, costOf, nodeOf, nodeAt}
-use Rattle.nodes.specs.Stored.{Fits, Good, Sound, Stored, Added, ChildOf, RootSoFar}
+use Rattle.meaning.proofs.Constraints.{bound-below}
+use Rattle.nodes.specs.Stored.{Fits, Sound, Stored, Added, ChildOf, RootSoFar}
 use Rattle.nodes.proofs.Tables.{map-same, map-set}
 use Rattle.nodes.proofs.Grid.{least-walk}
 use Rattle.nodes.proofs.Adds.{added, PathSet, finish-here, finish-other, finishes-long, path-other, path-here}
-
-pub good-bound : (d : Sheet) (c : Constraint) → Good d c → boundBy c < d .count
-good-bound d (Place a u t) g = g .0
-good-bound d (Move a u v t) g = g .0
 
 -- a node by its parts
 pub node-is : (d : Sheet) (fs : List (List ℕ)) (cs : List Constraint) (r : Bool) (a : List ℕ) (ks : List Constraint) (ps : List (List ℕ)) → rootIn fs ≡ r → assignmentOf d fs ≡ a → cs ≡ ks → pathsOf d fs ≡ ps
@@ -87,7 +84,7 @@ module _ (d : Sheet) (limit : ℕ) (work : List ℕ) (made n i : ℕ) (c : Const
   kid = childFields parent n c i t words
 
   inside : i < d .count
-  inside = rw (← g .binds) (good-bound d c (g .good))
+  inside = rw (← g .binds) (bound-below d c (g .good))
 
   few : i < 12
   few = omega (arith, inside, g .fits .count)

@@ -24,7 +24,8 @@ use Rattle.records.specs.Record.{fieldsAt, rootIn, tasksIn, finishesIn, wordsOf
 use Rattle.records.proofs.Frames.{length-field}
 use Rattle.records.proofs.Words.{bytes-same, length-words}
 use Rattle.nodes.specs.Nodes.{pathIn, pathsIn, pathOf, nodeOf, nodeAt}
-use Rattle.nodes.specs.Stored.{Fits, Good, Stored}
+use Rattle.meaning.specs.Constraints.{InRange}
+use Rattle.nodes.specs.Stored.{Fits, Stored}
 use Rattle.nodes.proofs.Tables.{map-same}
 use Rattle.nodes.proofs.Costs.{path-at}
 
@@ -42,7 +43,7 @@ accepted-fits s ok =
       starts = λ i b. accepted-start s ok i b;
     }
 
-pub good-small : (d : Sheet) (c : Constraint) → Fits d → Good d c → Small c
+pub good-small : (d : Sheet) (c : Constraint) → Fits d → InRange d c → Small c
 good-small d (Place a u t) f g = (omega (arith, f .count, g .0), omega (arith, f .places, g .1), omega (arith, f .horizon, g .2))
 good-small d (Move a u v t) f g = (omega (arith, f .count, g .0), omega (arith, f .places, g .1), omega (arith, f .places, g .2), omega (arith, f .horizon, g .3))
 
@@ -109,7 +110,7 @@ module _ (d : Sheet) where
   four a b c e x y z w = both (a && b && c) e (both (a && b) c (both a b x y) z) w
 
   -- the record of a constraint of the sheet
-  good-record : (rs : List ℕ) (k : ℕ) (c : Constraint) → ((n : ℕ) → n < 5 → recordWord rs k n ≡ getD (wordsOf c) n 0) → Good d c → T (goodRecord d rs k)
+  good-record : (rs : List ℕ) (k : ℕ) (c : Constraint) → ((n : ℕ) → n < 5 → recordWord rs k n ≡ getD (wordsOf c) n 0) → InRange d c → T (goodRecord d rs k)
   unfolding goodRecord wordsOf
   good-record rs k (Place a u t) h g =
       rw (h 0 (omega arith), h 1 (omega arith), h 2 (omega arith), h 3 (omega arith), h 4 (omega arith))
@@ -120,7 +121,7 @@ module _ (d : Sheet) where
       (four (leb 1 1) (ltb (a .0) (d .count)) (ltb u (area d)) (ltb v (area d) && ltb t (d .horizon)) tt (lt→ltb (a .0) (d .count) (g .0)) (lt→ltb u (area d) (g .1))
       (both (ltb v (area d)) (ltb t (d .horizon)) (lt→ltb v (area d) (g .2)) (lt→ltb t (d .horizon) (g .3))))
 
-  pub good-records : (cs : List Constraint) → ((c : Constraint) → Mem c cs → Good d c) → length cs ≤ 4096 → T (goodRecords d (each wordsOf cs))
+  pub good-records : (cs : List Constraint) → ((c : Constraint) → Mem c cs → InRange d c) → length cs ≤ 4096 → T (goodRecords d (each wordsOf cs))
   unfolding goodRecords
   good-records cs good few =
       let n : ℕ = length (each wordsOf cs) in

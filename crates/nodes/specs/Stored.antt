@@ -10,7 +10,7 @@ use Rattle.deck.specs.Search.{Node}
 use Rattle.deck.specs.Planner.{boundBy}
 use Rattle.deck.specs.Calls.{taskList}
 use Rattle.deck.specs.declared.Constraint.{Constraint}
-use Rattle.deck.specs.declared.Constraint.the-variants.{Place, Move}
+use Rattle.meaning.specs.Constraints.{InRange}
 use Rattle.records.specs.Record.{fieldsAt, linkIn, ownIn, tasksIn, finishesIn, Small, keyAt, closedKey}
 use Rattle.nodes.specs.Nodes.{pathOf, costOf, nodeAt, openedAt}
 
@@ -22,11 +22,6 @@ pub record Fits (d : Sheet) : Type 0 where
   pub horizon : d .horizon ≤ 255
   pub starts : (i : ℕ) → i < d .count → startOf d (carrier i) < area d
 
--- a constraint of the sheet: what cause 9 asks of a record
-abbrev pub Good : Sheet → Constraint → Type 0
-Good d (Place a u t) = (a .0 < d .count) × (u < area d) × (t ≤ d .horizon)
-Good d (Move a u v t) = (a .0 < d .count) × (u < area d) × (v < area d) × (t < d .horizon)
-
 -- links lead to earlier nodes, so that the walk along them ends, and constraints fit their records
 pub record Linked (work : List ℕ) (n : ℕ) : Type 0 where
   pub earlier : (k : ℕ) → k ≤ n → linkIn (fieldsAt work k) ≤ k
@@ -36,7 +31,7 @@ pub record Linked (work : List ℕ) (n : ℕ) : Type 0 where
 pub record Sound (d : Sheet) (k : ℕ) (fs : List (List ℕ)) : Type 0 where
   pub earlier : linkIn fs ≤ k
   pub small : Small (ownIn fs)
-  pub good : 0 < linkIn fs → Good d (ownIn fs)
+  pub good : 0 < linkIn fs → InRange d (ownIn fs)
   -- the tasks are bytes, 255 from m on
   pub bytes : (i : ℕ) → getD (tasksIn fs) i 0 < 256
   pub past : (i : ℕ) → d .count ≤ i → i < 12 → getD (tasksIn fs) i 0 ≡ 255
@@ -72,7 +67,7 @@ pub record ChildOf (d : Sheet) (limit : ℕ) (work : List ℕ) (made n : ℕ) (i
   pub fits : Fits d
   pub stored : Stored d limit work made
   pub binds : boundBy c ≡ i
-  pub good : Good d c
+  pub good : InRange d c
   pub walk : Mem path (walks d (d .horizon) (startOf d (carrier i)))
   pub finish : time ≡ finishOf d (task (getD (tasksIn (fieldsAt work n)) i 0)) path
 

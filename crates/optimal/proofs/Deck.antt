@@ -23,12 +23,13 @@ use Rattle.deck.specs.declared.Collision.{Collision}
 use Rattle.deck.specs.declared.Collision.the-variants.{Place as PlaceCollision, Move as MoveCollision}
 use Rattle.meaning.specs.Meaning.{_at_, Step, Path, Keeps, pathOf, Collides, FirstCollision, Assignment, Less}
 use Rattle.meaning.specs.Sorted.{Sorted}
+use Rattle.meaning.proofs.Constraints.{bound-below}
 use Rattle.meaning.proofs.Lists.{mem-below, sum-same, getD-below}
 use Rattle.meaning.proofs.LeastPath.{LeastMeant, least-path-meant}
 use Rattle.meaning.proofs.Collisions.{FirstMeant, first-collision-meant, no-first-collides}
 use Rattle.meaning.proofs.Assignments.{in-order-meant, in-order-rising, table-at, sum-at}
 use Rattle.optimal.specs.Plans.{Legals, IsLeast, Splits, Served, Rising, Laws}
-use Rattle.optimal.specs.Deck.{Fit, rules}
+use Rattle.optimal.specs.Deck.{rules}
 
 -- Of paths that do not collide one is not on u at t
 split-place : (h : ℕ) (p q : List ℕ) (t u : ℕ) → t ≤ h → ¬ Collides h p q → (p at t ≢ u) ⊎ (q at t ≢ u)
@@ -65,10 +66,6 @@ binds-one (Place a u t) i p ne = λ e. absurd (ne (sym e))
 binds-one (Move a u v t) i p ne = λ e. absurd (ne (sym e))
 
 module _ (d : Sheet) where
-  binds-below : (c : Constraint) → Fit d c → boundBy c < d .count
-  binds-below (Place a u t) f = f .0
-  binds-below (Move a u v t) f = f .0
-
   -- the least path
   least-law : (i j : ℕ) (cs : List Constraint) (o : Option (List ℕ)) → LeastMeant d (carrier i) (task j) cs o → IsLeast (problem d) (rules d) i j cs o
   unfolding problem
@@ -187,7 +184,7 @@ module _ (d : Sheet) where
       unfolding problem
       laws = record {
         binds-one = binds-one;
-        binds-below = binds-below;
+        binds-below = bound-below d;
         least = λ i j cs h fits. least-law i j cs (leastPath d (carrier i) (task j) cs) (least-meant i j cs h);
         collision = λ a ps legal. split-law a ps legal (firstCollision (d .count) (d .horizon) ps) refl;
         assignments-sound = sound;

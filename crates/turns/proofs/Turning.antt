@@ -31,7 +31,8 @@ use Rattle.optimal.proofs.Written.{pieces-flat}
 use Rattle.pack.proofs.Trips.{length-unpack}
 use Rattle.records.specs.Record.{fieldsAt, packedIn, closedKey, withKey}
 use Rattle.nodes.specs.Nodes.{pathIn, pathsIn, nodeAt, openedAt, Lows, Cheapest}
-use Rattle.nodes.specs.Stored.{Fits, Good, Stored}
+use Rattle.meaning.specs.Constraints.{InRange}
+use Rattle.nodes.specs.Stored.{Fits, Stored}
 use Rattle.nodes.specs.declared.Pick.{Pick}
 use Rattle.nodes.specs.declared.Pick.the-variants.{Nothing, Open}
 use Rattle.nodes.proofs.Kept.{close-stored, close-nodes, close-records}
@@ -189,7 +190,7 @@ module _ (s : List ℕ) (ok : cause s ≡ 0) where
           subst (Splits (problem (read s)) (rules (read s)) (nodeAt (read s) work n .paths)) (collides (some c) first ∙ sides-are c)
           (node-splits (problem (read s)) (rules (read s)) deck-laws (read s .limit) _≡_ st k (turning .1) choice picked)
 
-      pub sides-good : Good (read s) (sides c .0) × Good (read s) (sides c .1)
+      pub sides-good : InRange (read s) (sides c .0) × InRange (read s) (sides c .1)
       sides-good = (splits .0, splits .1)
 
       -- and to make its nodes one at a time is the turn
@@ -243,7 +244,7 @@ module _ (s : List ℕ) (ok : cause s ≡ 0) (work : List ℕ) (made latest k : 
     took-plan e = rw (took .is) (turn-plan s ok work made latest k st turning (room-of s ok work room) n cost (took .inside) (took .taken) (same-first none e))
 
     module _ (c : Collision) (e : first ≡ some c) where
-      pub took-good : Good (read s) (sides c .0) × Good (read s) (sides c .1)
+      pub took-good : InRange (read s) (sides c .0) × InRange (read s) (sides c .1)
       took-good = sides-good s ok work made latest k st turning (room-of s ok work room) n cost (took .inside) (took .taken) c (same-first (some c) e)
 
       pub took-turned : (after : List ℕ) (r : Turned)

@@ -17,7 +17,7 @@ ghost use Rattle.deck.specs.Calls.{collisionFound};
 ghost use Rattle.deck.specs.declared.Constraint.{Constraint};
 ghost use Rattle.meaning.specs.Making.{makeEach};
 ghost use Rattle.nodes.specs.Nodes.{nodeAt, Lows};
-ghost use Rattle.nodes.specs.Stored.{Good};
+ghost use Rattle.meaning.specs.Constraints.{InRange};
 ghost use Rattle.expand.specs.Held.{Given, Held, Holding, NodeAt, Nodes, Same};
 ghost use Rattle.turns.specs.Turns.{StartsOf, Turning, TurnedTo, EndedWith};
 
@@ -112,7 +112,7 @@ fn expanded(
     bounds: &[u8],
 ) -> Turned
     requires { ⌜ Given (now s) (now mask) (now t) (now work) (now bounds) × (n < made) × (length (now list) ≡ 20480) × Holding (read (now s)) (now work) made latest ⌝ }
-    requires { ⌜ NodeAt (read (now s)) (now work) n × Good (read (now s)) (sides c .0) × Good (read (now s)) (sides c .1) ⌝ }
+    requires { ⌜ NodeAt (read (now s)) (now work) n × InRange (read (now s)) (sides c .0) × InRange (read (now s)) (sides c .1) ⌝ }
     ensures turned { λ r. ⌜ ((opened : Nodes) (rest : List (List ℕ)) → Held (read (now (s .entry))) (now (work .entry)) made latest (record { opened = opened; made = made; rest = rest }) → TurnedTo (read (now (s .entry))) (now (work .exit)) made r (makeEach (problem (read (now (s .entry)))) (read (now (s .entry)) .limit) cost (nodeAt (read (now (s .entry))) (now (work .entry)) n) (sides c) rest (record { opened = opened; made = made; rest = restAfter (problem (read (now (s .entry)))) (nodeAt (read (now (s .entry))) (now (work .entry)) n .root) rest }))) ⌝ }
     ensures same { λ _. ⌜ Same (read (now (s .entry))) (now (work .entry)) (now (work .exit)) made ⌝ }
 {
