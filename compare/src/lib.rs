@@ -3,4 +3,16 @@
 pub mod inputs;
 pub mod theirs;
 
+use std::process::ExitCode;
+
 pub use carrier_planner::calls::*;
+
+/// Prints the last line; the exit status is 0 only if nothing failed.
+pub fn ended(passed: u64, failed: u64) -> ExitCode {
+    println!("{passed} passed, {failed} failed");
+    if failed == 0 {
+        ExitCode::SUCCESS
+    } else {
+        ExitCode::FAILURE
+    }
+}

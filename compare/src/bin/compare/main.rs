@@ -94,10 +94,5 @@ fn main() -> ExitCode {
         passed += good;
         failed += bad;
     }
-    println!("{passed} passed, {failed} failed");
-    if failed == 0 {
-        ExitCode::SUCCESS
-    } else {
-        ExitCode::FAILURE
-    }
+    compare::ended(passed, failed)
 }

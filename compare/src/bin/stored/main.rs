@@ -47,16 +47,11 @@ fn main() -> ExitCode {
         passed += good;
         failed += bad;
     }
-    println!("{passed} passed, {failed} failed");
-    if failed == 0 {
-        ExitCode::SUCCESS
-    } else {
-        ExitCode::FAILURE
-    }
+    compare::ended(passed, failed)
 }
 
 /// How many lines are the same and how many are not; the first of these are printed.
-fn beside(name: &str, stored: &str, said: &str) -> (usize, usize) {
+fn beside(name: &str, stored: &str, said: &str) -> (u64, u64) {
     let (stored, said): (Vec<&str>, Vec<&str>) = (stored.lines().collect(), said.lines().collect());
     let most = stored.len().max(said.len());
     let other: Vec<usize> = (0..most).filter(|&k| stored.get(k) != said.get(k)).collect();
@@ -68,5 +63,5 @@ fn beside(name: &str, stored: &str, said: &str) -> (usize, usize) {
             said.get(k)
         );
     }
-    (most - other.len(), other.len())
+    ((most - other.len()) as u64, other.len() as u64)
 }
