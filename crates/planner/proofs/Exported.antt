@@ -1,30 +1,24 @@
 -- From what the calls ensure of their answers to what the exported calls leave in the words lent. Assumes nothing.
-use Prim.Native.Nat.{ℕ, zero, suc, _+_, _≤_, _<_}
-use mathlib.Core.Path.{_≡_, refl, sym, ap, subst, _∙_}
+use Prim.Native.Nat.{ℕ, zero, suc, _≤_, _<_}
+use mathlib.Core.Path.{_≡_, refl, sym, subst, _∙_}
 use mathlib.Core.Logic.{_≢_}
-use mathlib.Core.List.{List, [], _∷_, _++_, append-assoc}
-use native.Mathlib.Numerals.{add-one}
-use native.Mathlib.Omega.{arith}
-use lib.ListN.{length, getD, set, take, replicate}
-use lib.Seq.{take-all, take-suc, take-suc-set}
+use mathlib.Core.List.{List, [], _∷_}
 use lib.IntN.{ℤ}
 use borrow.Author.Tests.{lt-ltb, le-ltb}
 use Rattle.deck.specs.Sheet.{Stretch, read, cause, task, countOf, pairAt, taskPair, _orElse_}
 use Rattle.deck.specs.Calls.{workspaceFor, goalsCause, goalsCall, stretchFor, PathCall, AssignmentCall, SearchCall}
-use Rattle.deck.specs.Numbers.{refusal, pathNumbers, assignmentNumbers, kindNumbers, searchNumbers}
+use Rattle.deck.specs.Numbers.{pathNumbers, assignmentNumbers, searchNumbers}
 use Rattle.deck.proofs.Told.{path-answered, assignment-answered, search-answered}
 use Rattle.deck.specs.declared.Carrier.{Carrier}
 use Rattle.deck.specs.declared.Task.{Task}
 use Rattle.deck.specs.declared.PathAnswer.{PathAnswer}
 use Rattle.deck.specs.declared.AssignmentKind.{AssignmentKind}
-use Rattle.deck.specs.declared.SearchKind.{SearchKind}
-use Rattle.deck.specs.declared.SearchKind.the-variants.{Plan, NoPlan, Spent, Refused as SearchRefused}
 use Rattle.deck.specs.declared.SearchAnswer.{SearchAnswer}
 use Rattle.meaning.specs.Meaning.{_at_}
 use Rattle.optimal.specs.Demand.{RightCall}
 use Rattle.path.specs.Meant.{Meant as PathMeant}
 use Rattle.assignment.specs.Meant.{Meant as AssignmentMeant}
-use Rattle.planner.specs.Small.{SmallPath, SmallAssignment, SmallSearch}
+use Rattle.numbers.specs.Small.{SmallPath, SmallAssignment, SmallSearch}
 use Rattle.planner.specs.Exports.{workspaceWanted, stretchNumbers, PathExport, AssignmentExport, InOrderExport, SearchExport}
 use Rattle.in_order.specs.Listed.{InOrderCall}
 use Rattle.in_order.specs.declared.Count.{Count}
@@ -61,11 +55,6 @@ pub goals-at : {a b : ℕ} (s : List ℕ) (j : ℕ) → cause s ≡ 0 → j < co
 unfolding goalsCall goalsCause
 goals-at s j e h p q = rw (e, lt-ltb j (countOf s) h, p, q)
 
--- A REFUSAL: its cause and zeros
-pub refused-numbers : (c x n : ℕ) → x ≡ c → 0 < c → (x ∷ replicate n 0) ≡ refusal c n
-refused-numbers zero x n e h = absurd (omega arith)
-refused-numbers (suc c) x n e h = rw e refl
-
 -- ONE CARRIER'S LEAST PATH
 module _ {s : List ℕ} {i : Carrier} {j : Task} {work out rs : List ℕ} (r : PathAnswer) {work′ out′ : List ℕ} where
   pub path-answer-small : PathCall s i j work out rs (pathNumbers r) work′ out′ → SmallPath r
@@ -99,29 +88,7 @@ in-order-exported p e f = record {
   unwritten = λ n. p .unwritten (λ q. n (sym (p .cause) ∙ q));
 }
 
--- THE SEARCH: the task list behind the first five numbers, one task more and all
-pub tasks-more : (l head tasks : List ℕ) (k v : ℕ) → 5 + k < length l → k < length tasks → v ≡ getD tasks k 0
-    → take (5 + k) l ≡ take 5 head ++ take k tasks → take (5 + (k + 1)) (set l (5 + k) v) ≡ take 5 head ++ take (k + 1) tasks
-tasks-more l head tasks k v h g e t =
-    let n : 5 + (k + 1) ≡ suc (5 + k) = omega arith in
-    rw (n, add-one k, take-suc tasks k 0 g)
-    (take-suc-set l (5 + k) v h ∙ rw (t, e) (append-assoc (take 5 head) (take k tasks) (getD tasks k 0 ∷ [])))
-
-pub tasks-all : (l head tasks : List ℕ) (k : ℕ) → length l ≤ 5 + k → length tasks ≤ k → take (5 + k) l ≡ take 5 head ++ take k tasks
-    → l ≡ take 5 head ++ tasks
-tasks-all l head tasks k h g t = sym (take-all (5 + k) l h) ∙ t ∙ rw (take-all k tasks g) refl
-
--- the two numbers of a kind
-kind-two : (k : SearchKind) (l : List ℕ) → (getD (kindNumbers k) 0 0 ∷ getD (kindNumbers k) 1 0 ∷ l) ≡ kindNumbers k ++ l
-kind-two Plan l = refl
-kind-two NoPlan l = refl
-kind-two Spent l = refl
-kind-two (SearchRefused c) l = refl
-
-pub search-numbered : (a : SearchAnswer) (first : List ℕ) (f n b : ℕ) → first ≡ kindNumbers (a .kind) → f ≡ a .flowtime → n ≡ a .nodes → b ≡ a .bound
-    → (getD first 0 0 ∷ getD first 1 0 ∷ f ∷ n ∷ b ∷ a .tasks) ≡ searchNumbers a
-search-numbered a first f n b ek ef en eb = rw (ek, ef, en, eb) (kind-two (a .kind) (a .flowtime ∷ a .nodes ∷ a .bound ∷ a .tasks))
-
+-- THE SEARCH
 module _ {s work out : List ℕ} (r : SearchAnswer) {work′ out′ : List ℕ} where
   pub search-answer-small : SearchCall s work out (searchNumbers r) work′ out′ → SmallSearch r
   search-answer-small p = subst SmallSearch (sym (search-answered r p)) (search-small s _ _)

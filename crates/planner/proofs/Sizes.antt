@@ -44,7 +44,7 @@ use Rattle.plan_check.specs.Meant.{PlanFor, Meant as CheckMeant}
 use Rattle.path.proofs.Calling.{NoCause, no-cause}
 use Rattle.assignment.proofs.Calls.{count-high}
 use Rattle.search.proofs.Calling.{no-cause as search-no-cause}
-use Rattle.planner.specs.Small.{word, SmallPath, SmallAssignment, SmallFound, SmallSearch, SmallCheck}
+use Rattle.numbers.specs.Small.{word, SmallPath, SmallAssignment, SmallFound, SmallSearch, SmallCheck}
 
 -- a sum of numbers of at most b
 sum-most : (b : ℕ) (l : List ℕ) → ((i : ℕ) → i < length l → l at i ≤ b) → sum l ≤ length l * b

@@ -1,5 +1,5 @@
 // The least assignment.
-use crate::narrowing::assignment_numbers;
+use numbers::assignment_numbers;
 ghost use Rattle.planner.specs.Exports.{AssignmentExport};
 
 // The numbers: cause, 1 if there is an assignment, its sum. All words of the three lists are written.

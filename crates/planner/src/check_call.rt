@@ -1,5 +1,5 @@
 // The plan check.
-use crate::narrowing::check_numbers;
+use numbers::check_numbers;
 ghost use mathlib.Core.Path.{_≡_};
 ghost use Rattle.deck.specs.Calls.{checkCall};
 ghost use Rattle.deck.specs.Numbers.{checkNumbers};

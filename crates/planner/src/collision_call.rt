@@ -1,5 +1,5 @@
 // The first collision.
-use crate::narrowing::collision_numbers;
+use numbers::collision_numbers;
 ghost use mathlib.Core.Path.{_≡_};
 ghost use Rattle.deck.specs.Calls.{collisionCall};
 ghost use Rattle.deck.specs.Numbers.{collisionNumbers};

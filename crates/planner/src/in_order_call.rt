@@ -1,6 +1,6 @@
 // The assignments in order.
-use crate::narrowing::narrow;
-use crate::narrowing::wide;
+use numbers::narrow;
+use numbers::wide;
 ghost use Rattle.planner.specs.Exports.{InOrderExport};
 
 // The numbers: cause, how many assignments are listed.

@@ -4,7 +4,6 @@ pub mod assignment_call;
 pub mod check_call;
 pub mod collision_call;
 pub mod in_order_call;
-mod narrowing;
 pub mod path_call;
 pub mod search_call;
 pub mod sheet_calls;

@@ -1,7 +1,7 @@
 // One carrier's least path.
-use crate::narrowing::path_numbers;
 use deck::Carrier;
 use deck::Task;
+use numbers::path_numbers;
 ghost use Rattle.deck.specs.Sheet.{carrier, task};
 ghost use Rattle.planner.specs.Exports.{PathExport};
 

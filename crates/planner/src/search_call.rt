@@ -1,5 +1,5 @@
 // The search for a plan of least flowtime.
-use crate::narrowing::search_numbers;
+use numbers::search_numbers;
 ghost use Rattle.planner.specs.Exports.{SearchExport};
 
 // The numbers: cause, kind (0 plan, 1 none, 2 spent, 3 refused), flowtime, nodes made, bound, and the task list of 12. The paths are

@@ -1,5 +1,5 @@
 // What a sheet is refused for, the workspace that it asks for, and where a task's goals stand in it.
-use crate::narrowing::wide;
+use numbers::wide;
 ghost use mathlib.Core.Path.{_≡_};
 ghost use Rattle.deck.specs.Sheet.{read, cause, task};
 ghost use Rattle.deck.specs.Calls.{goalsCall};

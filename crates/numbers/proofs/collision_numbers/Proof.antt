@@ -1,11 +1,11 @@
--- `planner::narrowing::collision_numbers` meets its contract: each case of the answer has the definition's numbers. Assumes nothing.
+-- `numbers::collision_numbers` meets its contract: each case of the answer has the definition's numbers. Assumes nothing.
 use borrow.Author.Needs.{needs}
 use mathlib.Core.Path.{subst, sym, ap, _∙_}
 use Rattle.deck.specs.Numbers.{collisionNumbers}
-use Rattle.planner.specs.Small.{SmallFound}
-use Rattle.planner.proofs.Exported.{refused-numbers}
-use Rattle.planner.proofs.narrowing.collision_numbers.Statement.{statement}
-use Rattle.planner.proofs.narrowing.collision_numbers.Tie as tie
+use Rattle.numbers.specs.Small.{SmallFound}
+use Rattle.numbers.proofs.Numbered.{refused-numbers}
+use Rattle.numbers.proofs.collision_numbers.Statement.{statement}
+use Rattle.numbers.proofs.collision_numbers.Tie as tie
 
 enum-known-a : tie.Need-enum-known-a
 enum-known-a c = search needs

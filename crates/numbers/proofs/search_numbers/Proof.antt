@@ -1,9 +1,9 @@
--- `planner::narrowing::search_numbers` meets its contract: the kind's two numbers, the three values, and the tasks. Assumes nothing.
+-- `numbers::search_numbers` meets its contract: the kind's two numbers, the three values, and the tasks. Assumes nothing.
 use borrow.Author.Needs.{needs}
 use mathlib.Core.Path.{_∙_}
-use Rattle.planner.proofs.Exported.{search-numbered}
-use Rattle.planner.proofs.narrowing.search_numbers.Statement.{statement}
-use Rattle.planner.proofs.narrowing.search_numbers.Tie as tie
+use Rattle.numbers.proofs.Numbered.{search-numbered}
+use Rattle.numbers.proofs.search_numbers.Statement.{statement}
+use Rattle.numbers.proofs.search_numbers.Tie as tie
 
 kind-numbers-requires : tie.Need-kind-numbers-requires
 kind-numbers-requires c κs = search needs

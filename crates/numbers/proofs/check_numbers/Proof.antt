@@ -1,10 +1,10 @@
--- `planner::narrowing::check_numbers` meets its contract: each case of the answer has the definition's numbers. Assumes nothing.
+-- `numbers::check_numbers` meets its contract: each case of the answer has the definition's numbers. Assumes nothing.
 use borrow.Author.Needs.{needs}
 use mathlib.Core.Path.{subst}
-use Rattle.planner.specs.Small.{SmallCheck}
-use Rattle.planner.proofs.Exported.{refused-numbers}
-use Rattle.planner.proofs.narrowing.check_numbers.Statement.{statement}
-use Rattle.planner.proofs.narrowing.check_numbers.Tie as tie
+use Rattle.numbers.specs.Small.{SmallCheck}
+use Rattle.numbers.proofs.Numbered.{refused-numbers}
+use Rattle.numbers.proofs.check_numbers.Statement.{statement}
+use Rattle.numbers.proofs.check_numbers.Tie as tie
 
 enum-known-a : tie.Need-enum-known-a
 enum-known-a c = search needs

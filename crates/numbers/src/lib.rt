@@ -11,7 +11,7 @@ ghost use mathlib.Core.List.{_++_};
 ghost use Prim.Native.Nat.{_<_};
 ghost use lib.ListN.{take};
 ghost use Rattle.deck.specs.Numbers.{pathNumbers, assignmentNumbers, collisionNumbers, kindNumbers, searchNumbers, checkNumbers};
-ghost use Rattle.planner.specs.Small.{word, SmallPath, SmallAssignment, SmallCollision, SmallFound, SmallSearch, SmallCheck};
+ghost use Rattle.numbers.specs.Small.{word, SmallPath, SmallAssignment, SmallCollision, SmallFound, SmallSearch, SmallCheck};
 
 pub fn narrow(x: usize) -> u32
     requires { ⌜ x < word ⌝ }

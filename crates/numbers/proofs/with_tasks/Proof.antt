@@ -1,13 +1,13 @@
--- `planner::narrowing::with_tasks` meets its contract: behind the first five numbers stand the first k tasks. Assumes nothing.
+-- `numbers::with_tasks` meets its contract: behind the first five numbers stand the first k tasks. Assumes nothing.
 use Prim.Native.Nat.{_+_, _-_, _≤_}
 use mathlib.Core.Path.{_≡_, sym, _∙_}
 use mathlib.Core.List.{_++_, append-nil}
 use native.Mathlib.Omega.{arith}
 use borrow.Author.Needs.{needs}
 use lib.ListN.{length, take, length-set}
-use Rattle.planner.proofs.Exported.{tasks-more, tasks-all}
-use Rattle.planner.proofs.narrowing.with_tasks.Statement.{statement}
-use Rattle.planner.proofs.narrowing.with_tasks.Tie as tie
+use Rattle.numbers.proofs.Numbered.{tasks-more, tasks-all}
+use Rattle.numbers.proofs.with_tasks.Statement.{statement}
+use Rattle.numbers.proofs.with_tasks.Tie as tie
 
 abbrev Inv-loop : tie.InvT-loop
 Inv-loop tasks r₀ k₀ r k = (k ≤ 12) × (length r ≡ 17) × (take (5 + k) r ≡ take 5 r₀ ++ take k tasks)

@@ -1,10 +1,10 @@
--- `planner::narrowing::found_numbers` meets its contract: each kind of collision has the definition's numbers. Assumes nothing.
+-- `numbers::found_numbers` meets its contract: each kind of collision has the definition's numbers. Assumes nothing.
 use borrow.Author.Needs.{needs}
 use mathlib.Core.Path.{subst}
 use native.Mathlib.Omega.{arith}
-use Rattle.planner.specs.Small.{SmallCollision}
-use Rattle.planner.proofs.narrowing.found_numbers.Statement.{statement}
-use Rattle.planner.proofs.narrowing.found_numbers.Tie as tie
+use Rattle.numbers.specs.Small.{SmallCollision}
+use Rattle.numbers.proofs.found_numbers.Statement.{statement}
+use Rattle.numbers.proofs.found_numbers.Tie as tie
 
 enum-known-c : tie.Need-enum-known-c
 enum-known-c c = search needs

@@ -1,7 +1,7 @@
--- `planner::narrowing::kind_numbers` meets its contract: each kind has the definition's two numbers. Assumes nothing.
+-- `numbers::kind_numbers` meets its contract: each kind has the definition's two numbers. Assumes nothing.
 use borrow.Author.Needs.{needs}
-use Rattle.planner.proofs.narrowing.kind_numbers.Statement.{statement}
-use Rattle.planner.proofs.narrowing.kind_numbers.Tie as tie
+use Rattle.numbers.proofs.kind_numbers.Statement.{statement}
+use Rattle.numbers.proofs.kind_numbers.Tie as tie
 
 enum-told : tie.Need-enum-told
 enum-told c = search needs
