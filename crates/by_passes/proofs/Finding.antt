@@ -14,6 +14,7 @@ use Rattle.deck.specs.Calls.{constraintsOf, workspaceFor, pathFound, pathWritte
 use Rattle.deck.specs.declared.Carrier.{Carrier}
 use Rattle.deck.specs.declared.Task.{Task}
 use Rattle.deck.specs.declared.PathAnswer.the-variants.{Found, NoPath}
+use Rattle.kernel.specs.Labels.{allGoals}
 use Rattle.kernel.specs.Parts.{stayFrom, restFrom}
 use Rattle.kernel.specs.Kernel.{fore, hind, pathAt, meetsAt, LeastTime, NoEarlier}
 use Rattle.kernel.proofs.Both.{and-left}
@@ -27,14 +28,14 @@ module _ (s : List ℕ) (i : Carrier) (j : Task) (mask rs : List ℕ) (r : Ready
   d = read s
 
   -- the backward pass from a time before which the task cannot be finished says that it can be then
-  pub guess-least : (from : ℕ) → Early s i j rs from → from ≤ d .horizon → {b : Bool} → b ≡ ltb (length (goalsOf d j)) (hind d i j (constraintsOf rs) from 0 (startOf d i)) → b ≡ true
+  pub guess-least : (from : ℕ) → Early s i j rs from → from ≤ d .horizon → {b : Bool} → b ≡ ltb (allGoals d j) (hind d i j (constraintsOf rs) from 0 (startOf d i)) → b ≡ true
       → LeastTime d i j (constraintsOf rs) from
   guess-least from e l f g =
       let z : from + (d .horizon - from) ≡ d .horizon = omega arith in
       record {
         meets = λ _. meets-can d i j (constraintsOf rs) (begins-free r) (ends-free r) (in-time r) from (d .horizon - from) z .test
             (hind-can d i j (constraintsOf rs) (begins-free r) (ends-free r) (in-time r) from (d .horizon - from) z .1
-            (e .stay, ltb-true (length (goalsOf d j)) (hind d i j (constraintsOf rs) from 0 (startOf d i)) (sym f ∙ g)));
+            (e .stay, ltb-true (allGoals d j) (hind d i j (constraintsOf rs) from 0 (startOf d i)) (sym f ∙ g)));
         first = e .early;
       }
 
@@ -53,7 +54,7 @@ module _ (s : List ℕ) (i : Carrier) (j : Task) (mask rs : List ℕ) (r : Ready
   early-of bound stay from h e g = record {
     stay = omega (arith, g .1);
     early = λ n l m. g .2 n (bound-early d i j (constraintsOf rs) (begins-free r) (ends-free r) (in-time r) bound h n l m)
-        (let x = leb→le (restFrom d i (lastGoal d j) (constraintsOf rs)) n (and-left (leb (restFrom d i (lastGoal d j) (constraintsOf rs)) n) (ltb (length (goalsOf d j)) (fore d i j (constraintsOf rs) n (lastGoal d j))) m) in omega arith);
+        (let x = leb→le (restFrom d i (lastGoal d j) (constraintsOf rs)) n (and-left (leb (restFrom d i (lastGoal d j) (constraintsOf rs)) n) (ltb (allGoals d j) (fore d i j (constraintsOf rs) n (lastGoal d j))) m) in omega arith);
   }
 
   module _ (end : ℕ) (t : LeastTime d i j (constraintsOf rs) end) where

@@ -12,10 +12,11 @@ use lib.ListN.{length, getD, set}
 use lib.Seq.{getD-set-same, getD-set-other}
 use lib.Dec.{T, eqb, ltb}
 use borrow.Author.Tests.{lt-ltb, le-ltb, eq-eqb, ne-eqb, ltb-true, ltb-false, eqb-true, eqb-false}
-use Rattle.deck.specs.Sheet.{Sheet, read, countOf, carrier, startOf, goalsOf, lastGoal, free, cause}
+use Rattle.deck.specs.Sheet.{Sheet, read, countOf, carrier, startOf, lastGoal, free, cause}
 use Rattle.deck.specs.Assignments.{barred}
 use Rattle.deck.specs.declared.Task.{Task}
 use Rattle.sheet.proofs.Accepted.{horizon-range, start-free, last-goal-free}
+use Rattle.kernel.specs.Labels.{allGoals}
 use Rattle.kernel.specs.Kernel.{hind}
 use Rattle.kernel.proofs.Choice.{lt-or-ge}
 use Rattle.kernel.proofs.Table.{hind-timeless, entry-found, entry-barred}
@@ -41,8 +42,8 @@ module _ (d : Sheet) (i : ℕ) (j : Task) where
 
   -- after one layer more
   pub marked-more : (k e label : ℕ) → k < barred → label ≡ steps d j k (startOf d (carrier i)) → Marked d i j k e
-      → Marked d i j (k + 1) (marked (length (goalsOf d j)) label k e)
-  marked-more k e label small q m = go (eqb e barred) refl (ltb (length (goalsOf d j)) label) refl
+      → Marked d i j (k + 1) (marked (allGoals d j) label k e)
+  marked-more k e label small q m = go (eqb e barred) refl (ltb (allGoals d j) label) refl
     where
       -- of the layer k itself, and of those before it
       split : (n : ℕ) → n < k + 1 → (n ≡ k) ⊎ (n < k)
@@ -54,15 +55,15 @@ module _ (d : Sheet) (i : ℕ) (j : Task) where
         earlier = λ n l h. ⊎-elim (λ z. omega (arith, m .found ne .0)) (λ z. m .earlier n z h) (split n l);
       }
 
-      go : (a : Bool) → eqb e barred ≡ a → (b : Bool) → ltb (length (goalsOf d j)) label ≡ b → Marked d i j (k + 1) (cond (a && b) k e)
+      go : (a : Bool) → eqb e barred ≡ a → (b : Bool) → ltb (allGoals d j) label ≡ b → Marked d i j (k + 1) (cond (a && b) k e)
       go true ea true eb = record {
-        found = λ x. (omega arith, omega (arith, ltb-true (length (goalsOf d j)) label eb));
+        found = λ x. (omega arith, omega (arith, ltb-true (allGoals d j) label eb));
         earlier = λ n l h. ⊎-elim (λ z. omega arith) (λ z. absurd (omega (arith, eqb-true e barred ea, m .earlier n z h))) (split n l);
       }
       go true ea false eb = record {
         found = λ x. absurd (x (eqb-true e barred ea));
         earlier = λ n l h. ⊎-elim
-            (λ z. let y : Reaches d i j k = subst (Reaches d i j) z h in absurd (omega (arith, ltb-false (length (goalsOf d j)) label eb)))
+            (λ z. let y : Reaches d i j k = subst (Reaches d i j) z h in absurd (omega (arith, ltb-false (allGoals d j) label eb)))
             (λ z. m .earlier n z h) (split n l);
       }
       go false ea true eb = old (eqb-false e barred ea)

@@ -16,6 +16,7 @@ use Rattle.deck.specs.declared.Task.{Task}
 use Rattle.sheet.proofs.Accepted.{width-range, height-range, count-range, horizon-range, goals-at-most, goal-on-grid, last-goal-on-grid, start-on-grid}
 use Rattle.kernel.specs.Kernel.{hind}
 use Rattle.kernel.proofs.Choice.{lt-or-ge}
+use Rattle.kernel.proofs.OfTask.{all-goals-is}
 use Rattle.kernel.proofs.Table.{hind-timeless}
 use Rattle.bars.specs.Padded.{padOf, Holds, MaskOf}
 use Rattle.bars.specs.Bars.{countIn, OnLayer, Chained}
@@ -107,7 +108,7 @@ module _ (s : List ℕ) (ok : cause s ≡ 0) (j : Task) where
         → Filled 0 m (λ i. marked n (getD layer (getD starts i 0) 0) k (getD before i 0)) before after → Column d j (k + 1) after
     column-more m n em en layer before after hs c f i h =
         let label : getD layer (getD starts i 0) 0 ≡ steps d j k (startOf d (carrier i)) = rw (begins i h) (hs .inside (startOf d (carrier i)) (start-on-grid s ok (carrier i))) in
-        rw (f .inside i (omega arith) (omega arith), en)
+        rw (f .inside i (omega arith) (omega arith), en, ← (all-goals-is d j))
         (marked-more d i j k (getD before i 0) (getD layer (getD starts i 0) 0) (omega (arith, horizon-range s ok)) label (c i h))
 
     -- the next layer is made

@@ -4,12 +4,13 @@ use mathlib.Core.Path.{_≡_}
 use mathlib.Core.Logic.{_≢_}
 use mathlib.Core.Bool.{cond, _&&_}
 use mathlib.Core.List.{List, []}
-use lib.ListN.{length, getD}
+use lib.ListN.{getD}
 use lib.Dec.{eqb, ltb}
-use Rattle.deck.specs.Sheet.{Sheet, read, countOf, carrier, startOf, goalsOf, cause}
+use Rattle.deck.specs.Sheet.{Sheet, read, countOf, carrier, startOf, cause}
 use Rattle.deck.specs.Paths.{leastPath}
 use Rattle.deck.specs.Assignments.{barred, entryOf}
 use Rattle.deck.specs.declared.Task.{Task}
+use Rattle.kernel.specs.Labels.{allGoals}
 use Rattle.kernel.specs.Kernel.{hind}
 use Rattle.bars.specs.Padded.{padOf, Holds, MaskOf}
 use Rattle.layers.specs.Step.{Margin}
@@ -29,7 +30,7 @@ steps d j n = hind d (carrier 0) j [] n 0
 
 -- n steps before the last goal the start of carrier i has every goal
 abbrev pub Reaches : Sheet → ℕ → Task → ℕ → Type 0
-Reaches d i j n = length (goalsOf d j) < steps d j n (startOf d (carrier i))
+Reaches d i j n = allGoals d j < steps d j n (startOf d (carrier i))
 
 -- the entry e once the layer of k steps is there, which has this label at the carrier's start
 abbrev pub marked : ℕ → ℕ → ℕ → ℕ → ℕ

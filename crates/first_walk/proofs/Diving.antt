@@ -8,17 +8,19 @@ use native.Mathlib.Nat.{eq-or-lt-of-le}
 use native.Mathlib.Omega.{arith}
 use lib.ListN.{length, set, length-set}
 use lib.Dec.{T, eqb}
-use Rattle.deck.specs.Sheet.{Sheet, read, goalsOf, lastGoal}
+use Rattle.deck.specs.Sheet.{Sheet, read, lastGoal}
 use Rattle.deck.specs.Calls.{constraintsOf}
 use Rattle.deck.specs.declared.Carrier.{Carrier}
 use Rattle.deck.specs.declared.Task.{Task}
 use Rattle.deck.specs.declared.Constraint.{Constraint}
+use Rattle.kernel.specs.Labels.{allGoals}
+use Rattle.passes.proofs.Given.{few-labels, all-counted}
 use Rattle.first_walk.specs.declared.Seek.{Seek}
 use Rattle.first_walk.specs.declared.Tried.{Tried}
 use Rattle.first_walk.specs.declared.Tried.the-variants.{Found, NoWalk}
 use Rattle.first_walk.specs.Walk.{slotOf, codeOf, Fails, goesBy, Dead, Dived, Led, On, Given}
 use Rattle.first_walk.proofs.Walking.{ends-here, ends-not, goes-on, goes-nowhere, dead-more, led-found}
-use Rattle.first_walk.proofs.Looking.{inside, place-small, label-small}
+use Rattle.first_walk.proofs.Looking.{inside, place-small}
 
 module _ {s : List ℕ} {i : Carrier} {j : Task} {mask goals rs heads links table : List ℕ} {l : Seek} (g : Given s i j mask goals rs heads links table l)
     {t u p k : ℕ} (o : On (read s) j (l .end) t u p k) where
@@ -28,8 +30,8 @@ module _ {s : List ℕ} {i : Carrier} {j : Task} {mask goals rs heads links tabl
   abbrev cs : List Constraint
   cs = constraintsOf rs
 
-  at-end : (b : Bool) → b ≡ (eqb u (l .last) && eqb k (l .n)) → b ≡ (eqb u (lastGoal d j) && eqb k (length (goalsOf d j)))
-  at-end b e = e ∙ ap₂ (λ (x y : ℕ). eqb u x && eqb k y) (g .final) (g .many)
+  at-end : (b : Bool) → b ≡ (eqb u (l .last) && eqb k (l .n)) → b ≡ (eqb u (lastGoal d j) && eqb k (allGoals d j))
+  at-end b e = e ∙ ap₂ (λ (x y : ℕ). eqb u x && eqb k y) (g .final) (all-counted (g .ready) (g .many))
 
   pub dived-here : (before : List ℕ) (b : Bool) (x : ℕ) → t ≡ l .end → b ≡ (eqb u (l .last) && eqb k (l .n)) → b ≡ true → x ≡ u → suc (d .horizon) ≤ length before
       → Dived d i j cs (l .end) t u k before (set before t x) Found
@@ -61,7 +63,7 @@ module _ {s : List ℕ} {i : Carrier} {j : Task} {mask goals rs heads links tabl
         → after ≡ set dead (slotOf t u) (codeOf t u k) → Fails d i j cs (l .end) t u k × Dead d i j cs (l .end) after
     dived-none x {dead} {after} lx h f e =
         let a = goes-nowhere d i j cs (l .end) t u k (inside g o) not-yet (o .label) (λ z b. h z (omega arith)) in
-        (a, dead-more d i j cs (l .end) dead after (slotOf t u) t u k (o .time) (place-small g o) (label-small g o) (omega arith) a f e)
+        (a, dead-more d i j cs (l .end) dead after (slotOf t u) t u k (o .time) (place-small g o) (o .label) (few-labels (g .ready)) (omega arith) a f e)
 
   -- one way more does not lead on
   pub ways-more : (x : ℕ) → ((z : ℕ) → z < x → ¬ T (goesBy d i j cs (l .end) t u k z)) → ¬ T (goesBy d i j cs (l .end) t u k x)

@@ -6,7 +6,7 @@ use mathlib.Core.Bool.{Bool, true, false, _&&_}
 use mathlib.Core.List.{List}
 use native.Mathlib.Numerals.{add-one}
 use native.Mathlib.Omega.{arith}
-use lib.ListN.{length, getD}
+use lib.ListN.{getD}
 use lib.Dec.{T, eqb, ltb→lt}
 use borrow.Author.Tests.{eqb-true}
 use Rattle.deck.specs.Sheet.{Sheet, read, area, free, goalsOf}
@@ -16,10 +16,10 @@ use Rattle.deck.specs.declared.Task.{Task}
 use Rattle.meaning.proofs.Paths.{free-meant}
 use Rattle.sheet.proofs.Accepted.{area-range}
 use Rattle.kernel.specs.Layers.{Parts, pass, back, good}
-use Rattle.kernel.specs.Goals.{up}
+use Rattle.kernel.specs.Labels.{allGoals, raised}
 use Rattle.kernel.specs.Parts.{freeMove, freePlace, stands, stepFree, partsOf}
 use Rattle.kernel.proofs.Both.{and-left, and-right, and-both}
-use Rattle.kernel.proofs.Labels.{up-le}
+use Rattle.kernel.proofs.OfTask.{raised-le}
 use Rattle.kernel.proofs.OfSheet.{stands-is, step-free-meant}
 use Rattle.bars.specs.Padded.{padOf, Gate}
 use Rattle.bars.specs.Ways.{turnOf, moveBy, placeBy, hasBy}
@@ -27,9 +27,9 @@ use Rattle.bars.proofs.Gates.{gate-shut, gate-open}
 use Rattle.bars.proofs.Grid.{pad-most, size-of, size-small}
 use Rattle.bars.proofs.Leads.{turn-most, leads, mask-by, step-by, leaves-any}
 use Rattle.layers.specs.Raise.{GoalsAt}
-use Rattle.passes.proofs.Given.{wide-one, wide-most, high-most, horizon-most, few-goals}
+use Rattle.passes.proofs.Given.{wide-one, wide-most, high-most, horizon-most, few-labels}
 use Rattle.trace.specs.Along.{Visited}
-use Rattle.trace.proofs.Looking.{visited-up}
+use Rattle.trace.proofs.Looking.{visited-raised}
 use Rattle.first_walk.specs.declared.Seek.{Seek}
 use Rattle.first_walk.specs.declared.Ahead.the-variants.{To}
 use Rattle.first_walk.specs.Walk.{slotOf, codeOf, goesBy, Dead, On, Seen, Given}
@@ -49,7 +49,7 @@ module _ {s : List ℕ} {i : Carrier} {j : Task} {mask goals rs heads links tabl
   place-small = omega (arith, inside, area-range s (g .ready .accepted) .1)
 
   pub label-small : k ≤ 8
-  label-small = omega (arith, o .label, few-goals (g .ready))
+  label-small = omega (arith, o .label, few-labels (g .ready))
 
   pub time-small : t < 256
   time-small = omega (arith, o .time, g .in-time, horizon-most (g .ready))
@@ -82,7 +82,7 @@ module _ {s : List ℕ} {i : Carrier} {j : Task} {mask goals rs heads links tabl
 
   -- what it takes that the way x leads on
   goes-asks : (x : ℕ) → T (goesBy d i j (constraintsOf rs) (l .end) t u k x)
-      → T (hasBy d u x) × T (pass w t u (placeBy d u x)) × (length (goalsOf d j) < up (placeBy d u x) (goalsOf d j) k + back w (l .end - (t + 1)) (suc t) (placeBy d u x))
+      → T (hasBy d u x) × T (pass w t u (placeBy d u x)) × (allGoals d j < raised d j u (placeBy d u x) k + back w (l .end - (t + 1)) (suc t) (placeBy d u x))
   goes-asks x h =
       let a = and-right (hasBy d u x) (good w (l .end - (t + 1)) t u k (placeBy d u x)) h in (
         and-left (hasBy d u x) (good w (l .end - (t + 1)) t u k (placeBy d u x)) h,
@@ -135,20 +135,20 @@ module _ {s : List ℕ} {i : Carrier} {j : Task} {mask goals rs heads links tabl
       open-small = omega (arith, open-inside, area-range s (g .ready .accepted) .1)
 
       module _ {c : ℕ} (vis : Visited goals (l .n) q k c) where
-        pub counted : c ≡ up v (goalsOf d j) k
-        counted = visited-up (d .width) (omega (arith, wide-one (g .ready))) (goalsOf d j) goals (l .n) v q k c
-            (subst (λ (y : ℕ). GoalsAt (d .width) (goalsOf d j) goals y) (sym (g .many)) (g .on-goals)) (op .padded) vis
+        pub counted : c ≡ raised d j u v k
+        counted = visited-raised d j (d .width) (omega (arith, wide-one (g .ready))) goals (l .n)
+            (subst (λ (y : ℕ). GoalsAt (d .width) (goalsOf d j) goals y) (sym (g .many)) (g .on-goals)) u v q k c (op .padded) vis
 
-        pub count-within : c ≤ length (goalsOf d j)
-        count-within = rw counted (up-le v (goalsOf d j) k (o .label))
+        pub count-within : c ≤ allGoals d j
+        count-within = rw counted (raised-le d j u v k (o .label))
 
         pub count-small : c ≤ 8
-        count-small = omega (arith, count-within, few-goals (g .ready))
+        count-small = omega (arith, count-within, few-labels (g .ready))
 
-        same-count : up (placeBy d u x) (goalsOf d j) k ≡ c
-        same-count = ap (λ (y : ℕ). up y (goalsOf d j) k) (sym (op .at)) ∙ sym counted
+        same-count : raised d j u (placeBy d u x) k ≡ c
+        same-count = ap (λ (y : ℕ). raised d j u y k) (sym (op .at)) ∙ sym counted
 
-        meets-there : T (goesBy d i j (constraintsOf rs) (l .end) t u k x) → length (goalsOf d j) < c + back w (l .end - (t + 1)) (suc t) v
+        meets-there : T (goesBy d i j (constraintsOf rs) (l .end) t u k x) → allGoals d j < c + back w (l .end - (t + 1)) (suc t) v
         meets-there h = rw (op .at) (rw same-count at (goes-asks x h .2))
 
         -- the bound says that it is too late
@@ -158,8 +158,8 @@ module _ {s : List ℕ} {i : Carrier} {j : Task} {mask goals rs heads links tabl
         -- it is remembered
         pub was-dead : (dead : List ℕ) (b : Bool) → Dead d i j (constraintsOf rs) (l .end) dead → b ≡ eqb (getD dead (slotOf (t + 1) v) 0) (codeOf (t + 1) v c) → b ≡ true → Closed
         was-dead dead b f e y h =
-            let a = f .fails (slotOf (t + 1) v) (t + 1) v c (omega arith) open-small count-small (eqb-true (getD dead (slotOf (t + 1) v) 0) (codeOf (t + 1) v c) (sym e ∙ y)) in
-            let m : length (goalsOf d j) < c + back w (l .end - (t + 1)) (t + 1) v = subst (λ (y : ℕ). length (goalsOf d j) < c + back w (l .end - (t + 1)) y v) (sym (add-one t)) (meets-there h) in
+            let a = f .fails (slotOf (t + 1) v) (t + 1) v c (omega arith) open-small count-within (eqb-true (getD dead (slotOf (t + 1) v) 0) (codeOf (t + 1) v c) (sym e ∙ y)) in
+            let m : allGoals d j < c + back w (l .end - (t + 1)) (t + 1) v = subst (λ (y : ℕ). allGoals d j < c + back w (l .end - (t + 1)) y v) (sym (add-one t)) (meets-there h) in
             omega arith
 
         -- what the constraints let

@@ -1,6 +1,6 @@
 -- From the walk that begins on the start to the answer. Assumes nothing.
 use Prim.Native.Nat.{ℕ, suc, _+_, _≤_, zero-le}
-use mathlib.Core.Path.{_≡_, refl, sym, ap, _∙_, subst}
+use mathlib.Core.Path.{_≡_, refl, sym, ap, ap₂, _∙_, subst}
 use mathlib.Core.Bool.{Bool, true, false}
 use mathlib.Core.List.{List}
 use native.Mathlib.Omega.{arith}
@@ -11,9 +11,9 @@ use Rattle.deck.specs.Calls.{constraintsOf}
 use Rattle.deck.specs.declared.Carrier.{Carrier}
 use Rattle.deck.specs.declared.Task.{Task}
 use Rattle.deck.specs.declared.Constraint.{Constraint}
-use Rattle.kernel.specs.Goals.{up}
+use Rattle.kernel.specs.Labels.{firstLabel}
 use Rattle.kernel.specs.Parts.{freePlace, stands}
-use Rattle.kernel.proofs.Labels.{up-le}
+use Rattle.kernel.proofs.OfTask.{first-label-le}
 use Rattle.kernel.proofs.OfSheet.{stands-is}
 use Rattle.bars.specs.Padded.{padOf}
 use Rattle.layers.specs.Raise.{GoalsAt}
@@ -21,7 +21,7 @@ use Rattle.layers.specs.Fill.{Filled}
 use Rattle.passes.specs.Ready.{Ready, Goals}
 use Rattle.passes.proofs.Given.{begins-free, wide-one}
 use Rattle.trace.specs.Along.{Visited}
-use Rattle.trace.proofs.Looking.{visited-up}
+use Rattle.trace.proofs.Looking.{visited-first}
 use Rattle.first_walk.specs.declared.Tried.{Tried}
 use Rattle.first_walk.specs.declared.Tried.the-variants.{Found, NoWalk, Unknown}
 use Rattle.first_walk.specs.Walk.{Dived, On, Walked}
@@ -36,17 +36,15 @@ module _ {s : List ℕ} {i : Carrier} {j : Task} {mask rs : List ℕ} (r : Ready
 
   -- the label on the start
   pub start-label : {goals : List ℕ} {n p k u w : ℕ} → Goals s j goals → n ≡ length (goalsOf d j) → u ≡ startOf d i → w ≡ d .width → p ≡ padOf w u → Visited goals n p 0 k
-      → k ≡ up (startOf d i) (goalsOf d j) 0
+      → k ≡ firstLabel d i j
   start-label {goals} {n} {p} {k} {u} {w} g en eu ew ep v =
-      visited-up (d .width) (omega (arith, wide-one r)) (goalsOf d j) goals n u p 0 k (subst (λ (y : ℕ). GoalsAt (d .width) (goalsOf d j) goals y) (sym en) g)
-      (ep ∙ ap (λ (y : ℕ). padOf y u) ew) v
-      ∙ ap (λ (y : ℕ). up y (goalsOf d j) 0) eu
+      visited-first d j (d .width) (omega (arith, wide-one r)) goals n (subst (λ (y : ℕ). GoalsAt (d .width) (goalsOf d j) goals y) (sym en) g) i p k (ep ∙ ap₂ padOf ew eu) v
 
-  pub start-on : {p k u w : ℕ} → u ≡ startOf d i → w ≡ d .width → p ≡ padOf w u → k ≡ up (startOf d i) (goalsOf d j) 0 → On d j end 0 u p k
+  pub start-on : {p k u w : ℕ} → u ≡ startOf d i → w ≡ d .width → p ≡ padOf w u → k ≡ firstLabel d i j → On d j end 0 u p k
   start-on {p} {k} {u} {w} eu ew ep ek = record {
     on-free = rw eu (begins-free r);
     padded = ep ∙ ap (λ (y : ℕ). padOf y u) ew;
-    label = rw ek (up-le (startOf d i) (goalsOf d j) 0 zero-le);
+    label = rw ek (first-label-le d j i);
     time = zero-le;
   }
 
@@ -58,7 +56,7 @@ module _ {s : List ℕ} {i : Carrier} {j : Task} {mask rs : List ℕ} (r : Ready
   pub walked-barred : (b : Bool) (u : ℕ) (before : List ℕ) → u ≡ startOf d i → b ≡ freePlace i cs 0 u → b ≡ false → Walked d i j cs end before before NoWalk
   walked-barred b u before eu e f = (start-barred d i j cs end b (start-stands b u eu e) f, refl)
 
-  module _ {u k : ℕ} (eu : u ≡ startOf d i) (ek : k ≡ up (startOf d i) (goalsOf d j) 0) {before after : List ℕ} {a : Tried} (h : Dived d i j cs end 0 u k before after a) where
+  module _ {u k : ℕ} (eu : u ≡ startOf d i) (ek : k ≡ firstLabel d i j) {before after : List ℕ} {a : Tried} (h : Dived d i j cs end 0 u k before after a) where
     as-case : (b : Tried) → a ≡ b → Dived d i j cs end 0 u k before after b
     as-case b e = subst (Dived d i j cs end 0 u k before after) e h
 

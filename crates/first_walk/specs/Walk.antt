@@ -11,7 +11,7 @@ use Rattle.deck.specs.declared.Carrier.{Carrier}
 use Rattle.deck.specs.declared.Task.{Task}
 use Rattle.deck.specs.declared.Constraint.{Constraint}
 use Rattle.kernel.specs.Layers.{pass, back, good, trace}
-use Rattle.kernel.specs.Goals.{up}
+use Rattle.kernel.specs.Labels.{allGoals, raised}
 use Rattle.kernel.specs.Parts.{partsOf}
 use Rattle.kernel.specs.Kernel.{hind, pathAt}
 use Rattle.bars.specs.Padded.{padOf}
@@ -36,10 +36,10 @@ codeOf t u k = 1 + u + 1024 * k + 16384 * t
 module _ (d : Sheet) (i : Carrier) (j : Task) (cs : List Constraint) (end : ℕ) where
   -- on u at t with the label k the task can be finished at the end, or cannot
   abbrev pub Meets : ℕ → ℕ → ℕ → Type 0
-  Meets t u k = length (goalsOf d j) < k + back (partsOf d i j cs) (end - t) t u
+  Meets t u k = allGoals d j < k + back (partsOf d i j cs) (end - t) t u
 
   abbrev pub Fails : ℕ → ℕ → ℕ → Type 0
-  Fails t u k = k + back (partsOf d i j cs) (end - t) t u ≤ length (goalsOf d j)
+  Fails t u k = k + back (partsOf d i j cs) (end - t) t u ≤ allGoals d j
 
   -- the way x from there leads on to the finish
   abbrev pub goesBy : ℕ → ℕ → ℕ → ℕ → Bool
@@ -56,7 +56,7 @@ module _ (d : Sheet) (i : Carrier) (j : Task) (cs : List Constraint) (end : ℕ)
   -- what is remembered cannot be finished
   pub record Dead (dead : List ℕ) : Type 0 where
     pub size : length dead ≡ 1024
-    pub fails : (x t u k : ℕ) → t ≤ end → u < 1024 → k ≤ 8 → getD dead x 0 ≡ codeOf t u k → Fails t u k
+    pub fails : (x t u k : ℕ) → t ≤ end → u < 1024 → k ≤ allGoals d j → getD dead x 0 ≡ codeOf t u k → Fails t u k
 
   -- the walk from u at t
   abbrev pub DivedBy : ℕ → ℕ → ℕ → List ℕ → List ℕ → Tried → Type 0
@@ -70,25 +70,25 @@ module _ (d : Sheet) (i : Carrier) (j : Task) (cs : List Constraint) (end : ℕ)
   -- the walk from u at t by the way x
   abbrev pub LedBy : ℕ → ℕ → ℕ → ℕ → List ℕ → List ℕ → Tried → Type 0
   LedBy t u k x before after Found =
-      T (goesBy t u k x) × Written (t + 1) (placeBy d u x) (up (placeBy d u x) (goalsOf d j) k) before after
+      T (goesBy t u k x) × Written (t + 1) (placeBy d u x) (raised d j u (placeBy d u x) k) before after
   LedBy t u k x before after NoWalk = (¬ T (goesBy t u k x)) × (after ≡ before)
   LedBy t u k x before after Unknown = after ≡ before
 
   pub record Led (t u k x : ℕ) (before after : List ℕ) (r : Tried) : Type 0 where
     pub says : LedBy t u k x before after r
 
--- where the walk is: on the free place u at t, with k goals visited
+-- where the walk is: on the free place u at t, with the label k
 pub record On (d : Sheet) (j : Task) (end t u p k : ℕ) : Type 0 where
   pub on-free : T (free d u)
   pub padded : p ≡ padOf (d .width) u
-  pub label : k ≤ length (goalsOf d j)
+  pub label : k ≤ allGoals d j
   pub time : t ≤ end
 
 -- a look by the way x
 abbrev pub Seen : Sheet → Carrier → Task → List Constraint → (end t u k x : ℕ) → Ahead → Type 0
 Seen d i j cs end t u k x Shut = ¬ T (goesBy d i j cs end t u k x)
 Seen d i j cs end t u k x (To v q c) =
-    T (hasBy d u x) × (v ≡ placeBy d u x) × (c ≡ up v (goalsOf d j) k) × T (pass (partsOf d i j cs) t u v) × On d j end (t + 1) v q c
+    T (hasBy d u x) × (v ≡ placeBy d u x) × (c ≡ raised d j u v k) × T (pass (partsOf d i j cs) t u v) × On d j end (t + 1) v q c
 
 -- what the walk is given
 pub record Given (s : List ℕ) (i : Carrier) (j : Task) (mask goals rs heads links table : List ℕ) (l : Seek) : Type 0 where
@@ -105,6 +105,6 @@ pub record Given (s : List ℕ) (i : Carrier) (j : Task) (mask goals rs heads li
 -- the answer: the first path that finishes at the end is written; there is none; or the walk was cut off
 abbrev pub Walked : Sheet → Carrier → Task → List Constraint → ℕ → List ℕ → List ℕ → Tried → Type 0
 Walked d i j cs end before after Found =
-    (length (goalsOf d j) < hind d i j cs end 0 (startOf d i)) × (after ≡ overwrite (pathAt d i j cs (d .horizon - end) end) before)
-Walked d i j cs end before after NoWalk = (¬ (length (goalsOf d j) < hind d i j cs end 0 (startOf d i))) × (after ≡ before)
+    (allGoals d j < hind d i j cs end 0 (startOf d i)) × (after ≡ overwrite (pathAt d i j cs (d .horizon - end) end) before)
+Walked d i j cs end before after NoWalk = (¬ (allGoals d j < hind d i j cs end 0 (startOf d i))) × (after ≡ before)
 Walked d i j cs end before after Unknown = after ≡ before

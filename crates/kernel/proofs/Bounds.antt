@@ -1,4 +1,4 @@
--- A layer's numbers are at most one more than the number of goals. Assumes nothing.
+-- A layer's numbers are at most one more than the label of all goals. Assumes nothing.
 use Prim.Native.Nat.{ℕ, zero, suc, _≤_, zero-le, max}
 use mathlib.Core.Bool.{Bool, true, false, cond, _&&_}
 use mathlib.Core.List.{List, [], _∷_, reverse}
@@ -11,6 +11,7 @@ use Rattle.deck.specs.declared.Task.{Task}
 use Rattle.deck.specs.declared.Constraint.{Constraint}
 use Rattle.kernel.specs.Layers.{best, lift}
 use Rattle.kernel.specs.Goals.{up}
+use Rattle.kernel.specs.Labels.{allGoals}
 use Rattle.kernel.specs.Near.{near}
 use Rattle.kernel.specs.Parts.{freeMove, stands, stepFree}
 use Rattle.kernel.specs.Kernel.{settle, fore, hind}
@@ -37,8 +38,8 @@ one-le true n = omega arith
 one-le false n = zero-le
 
 module _ (d : Sheet) (i : Carrier) (j : Task) (cs : List Constraint) where
-  pub fore-le : (t v : ℕ) → fore d i j cs t v ≤ suc (length (goalsOf d j))
-  unfolding fore
+  pub fore-le : (t v : ℕ) → fore d i j cs t v ≤ suc (allGoals d j)
+  unfolding fore allGoals
   fore-le zero v = settle-le (stands d i cs 0) (goalsOf d j) v _ (one-le (eqb v (startOf d i)) (length (goalsOf d j)))
   fore-le (suc t) v = settle-le (stands d i cs (suc t)) (goalsOf d j) v _
       (best-le (λ u. stepFree d u v && freeMove i cs t u v) (fore d i j cs t) (near d v) (suc (length (goalsOf d j))) (fore-le t))
@@ -49,5 +50,6 @@ module _ (d : Sheet) (i : Carrier) (j : Task) (cs : List Constraint) where
   hind-turned (suc n) t u = settle-le (stands d i cs t) (reverse (goalsOf d j)) u _
       (best-le (λ v. stepFree d u v && freeMove i cs t u v) (hind d i j cs n (suc t)) (near d u) (suc (length (reverse (goalsOf d j)))) (hind-turned n (suc t)))
 
-  pub hind-le : (n t u : ℕ) → hind d i j cs n t u ≤ suc (length (goalsOf d j))
+  pub hind-le : (n t u : ℕ) → hind d i j cs n t u ≤ suc (allGoals d j)
+  unfolding allGoals
   hind-le n t u = omega (arith, hind-turned n t u, length-reverse (goalsOf d j))

@@ -3,7 +3,7 @@ use Prim.Native.Nat.{ℕ, zero, suc, _+_, _-_, _≤_, _<_, zero-le, max}
 use mathlib.Core.Path.{_≡_, refl, sym, ap, _∙_, subst}
 use mathlib.Core.Logic.{_↔_, _⊎_, ⊎-elim}
 use mathlib.Core.Bool.{Bool, true, false, cond, _&&_}
-use mathlib.Core.List.{List, [], _∷_, reverse}
+use mathlib.Core.List.{List, [], _∷_, reverse, List·Memᴰ as Mem}
 use native.Mathlib.Nat.{eq-or-lt-of-le, le-refl}
 use native.Mathlib.Omega.{arith}
 use lib.ListN.{length}
@@ -16,11 +16,13 @@ use Rattle.deck.specs.declared.Constraint.{Constraint}
 use Rattle.meaning.proofs.Tests.{same-test}
 use Rattle.kernel.specs.Layers.{Parts, best, firstOf, lift, pass, front, back, rest, good, next, trace}
 use Rattle.kernel.specs.Goals.{up, lowered}
+use Rattle.kernel.specs.Labels.{allGoals, firstLabel, raised}
 use Rattle.kernel.specs.Parts.{partsOf}
 use Rattle.kernel.specs.Kernel.{fore, hind, onward, follow}
 use Rattle.kernel.proofs.Both.{and-left, and-right, and-both}
-use Rattle.kernel.proofs.Labels.{up-le, up-mono, lowered-iff}
-use Rattle.kernel.proofs.Choice.{best-some, best-lift, lt-or-ge}
+use Rattle.kernel.proofs.Labels.{up-mono}
+use Rattle.kernel.proofs.OfTask.{raised-le, before-step, after-step}
+use Rattle.kernel.proofs.Choice.{best-some, best-all, best-lift, lt-or-ge}
 use Rattle.kernel.proofs.Reverse.{backward-as-forward}
 
 pub best-same : (ok : ℕ → Bool) (f g : ℕ → ℕ) → ((x : ℕ) → f x ≡ g x) → (l : List ℕ) → best ok f l ≡ best ok g l
@@ -78,10 +80,11 @@ module _ (d : Sheet) (i : Carrier) (j : Task) (cs : List Constraint) where
 
   -- forward, the greatest is taken first and raised at the place itself
   front-plain : (t v : ℕ) → front w (suc t) v ≡ lift (up v gs) (best (λ u. pass w t u v) (front w t) (w .preds v))
+  unfolding raised
   front-plain t v = best-lift (λ u. pass w t u v) (up v gs) (front w t) (up-mono v gs) (w .preds v)
 
   pub fore-front : (t v : ℕ) → fore d i j cs t v ≡ front w t v
-  unfolding fore
+  unfolding fore firstLabel
   fore-front zero v = go (eqb v (startOf d i)) refl
     where
       none-here : (c : Bool) → _≡_ {A = ℕ} (cond c 0 0) 0
@@ -111,6 +114,19 @@ module _ (d : Sheet) (i : Carrier) (j : Task) (cs : List Constraint) where
       (λ h. let r = best-some (λ v. pass w t u v) (λ v. lowered v gs (back w n (suc t) v)) (w .succs u) (suc (length gs)) h in absurd (omega (arith, r .3)))
       (λ h. h) (lt-or-ge (suc (length gs)) (back w (suc n) t u))
 
+  -- a step by which the task is finished n steps later: so it is from where the step goes
+  pub good-back : (n t u k v : ℕ) → k ≤ allGoals d j → Mem v (w .succs u) → T (good w n t u k v) → allGoals d j < k + back w (suc n) t u
+  good-back n t u k v l m g =
+      let a = before-step d j i cs u v k (back w n (suc t) v) (ltb→lt (w .whole) (w .raise u v k + back w n (suc t) v) (and-right (pass w t u v) _ g)) in
+      omega (arith, best-all (λ y. pass w t u y) (λ y. w .lower u y (back w n (suc t) y)) m (and-left (pass w t u v) _ g))
+
+  -- and where it can be finished, there is such a step
+  pub back-good : (n t u k : ℕ) → k ≤ allGoals d j → allGoals d j < k + back w (suc n) t u → (v : ℕ) × Mem v (w .succs u) × T (good w n t u k v)
+  back-good n t u k l h =
+      let r = best-some (λ y. pass w t u y) (λ y. w .lower u y (back w n (suc t) y)) (w .succs u) (allGoals d j - k) (omega arith) in
+      let a = after-step d j i cs u (r .0) k (back w n (suc t) (r .0)) l (omega (arith, r .3)) in
+      (r .0, r .1, and-both (pass w t u (r .0)) _ (r .2) (lt→ltb (w .whole) (w .raise u (r .0) k + back w n (suc t) (r .0)) a))
+
   pub hind-back : (n t u : ℕ) → hind d i j cs n t u ≡ cond (w .stand t u) (lowered u gs (back w n t u)) 0
   unfolding hind
   hind-back zero t u = ap (λ (x : ℕ). cond (w .stand t u) x 0) (sym (backward-as-forward u gs (back w zero t u) (back-le zero t u)))
@@ -120,23 +136,23 @@ module _ (d : Sheet) (i : Carrier) (j : Task) (cs : List Constraint) where
       ∙ sym (best-mask (w .step t u) (w .stand (suc t)) (λ v. lowered v gs (back w n (suc t) v)) (w .succs u)))
       ∙ ap (λ (x : ℕ). cond (w .stand t u) x 0) (sym (backward-as-forward u gs (back w (suc n) t u) (back-le (suc n) t u)))
 
-  pub onward-good : (n t u k : ℕ) → k ≤ length gs → (v : ℕ) → onward d i j cs n t u k v ≡ good w n t u k v
+  pub onward-good : (n t u k : ℕ) → k ≤ allGoals d j → (v : ℕ) → onward d i j cs n t u k v ≡ good w n t u k v
   unfolding onward
-  onward-good n t u k l v = rw (hind-back n (suc t) v) (go (w .step t u v) (w .stand (suc t) v) (lowered-iff gs v k (back w n (suc t) v)))
+  onward-good n t u k l v = rw (hind-back n (suc t) v) (go (w .step t u v) (w .stand (suc t) v) (before-step d j i cs u v k (back w n (suc t) v), after-step d j i cs u v k (back w n (suc t) v) l))
     where
-      go : (a c : Bool) → (length gs < up v gs k + back w n (suc t) v → length gs < k + lowered v gs (back w n (suc t) v)) × (length gs < k + lowered v gs (back w n (suc t) v) → length gs < up v gs k + back w n (suc t) v)
-          → (a && ltb (length gs) (k + cond c (lowered v gs (back w n (suc t) v)) 0)) ≡ ((a && c) && ltb (length gs) (up v gs k + back w n (suc t) v))
+      go : (a c : Bool) → (allGoals d j < raised d j u v k + back w n (suc t) v → allGoals d j < k + lowered v gs (back w n (suc t) v)) × (allGoals d j < k + lowered v gs (back w n (suc t) v) → allGoals d j < raised d j u v k + back w n (suc t) v)
+          → (a && ltb (allGoals d j) (k + cond c (lowered v gs (back w n (suc t) v)) 0)) ≡ ((a && c) && ltb (allGoals d j) (raised d j u v k + back w n (suc t) v))
       go false c h = refl
       go true true h =
-          same-test (ltb (length gs) (k + lowered v gs (back w n (suc t) v))) (ltb (length gs) (up v gs k + back w n (suc t) v))
-          (λ x. lt→ltb (length gs) (up v gs k + back w n (suc t) v) (h .1 (ltb→lt (length gs) (k + lowered v gs (back w n (suc t) v)) x)))
-          (λ x. lt→ltb (length gs) (k + lowered v gs (back w n (suc t) v)) (h .0 (ltb→lt (length gs) (up v gs k + back w n (suc t) v) x)))
-      go true false h = same-test (ltb (length gs) (k + 0)) false (λ x. absurd (omega (arith, ltb→lt (length gs) (k + 0) x))) (λ x. absurd x)
+          same-test (ltb (allGoals d j) (k + lowered v gs (back w n (suc t) v))) (ltb (allGoals d j) (raised d j u v k + back w n (suc t) v))
+          (λ x. lt→ltb (allGoals d j) (raised d j u v k + back w n (suc t) v) (h .1 (ltb→lt (allGoals d j) (k + lowered v gs (back w n (suc t) v)) x)))
+          (λ x. lt→ltb (allGoals d j) (k + lowered v gs (back w n (suc t) v)) (h .0 (ltb→lt (allGoals d j) (raised d j u v k + back w n (suc t) v) x)))
+      go true false h = same-test (ltb (allGoals d j) (k + 0)) false (λ x. absurd (omega (arith, ltb→lt (allGoals d j) (k + 0) x))) (λ x. absurd x)
 
-  pub follow-trace : (m n t u k : ℕ) → k ≤ length gs → follow d i j cs m n t u k ≡ trace w m n t u k
+  pub follow-trace : (m n t u k : ℕ) → k ≤ allGoals d j → follow d i j cs m n t u k ≡ trace w m n t u k
   unfolding follow
   follow-trace m zero t u k l = refl
   follow-trace m (suc n) t u k l =
       let v : ℕ = next w n t u k in
-      ap (λ (x : ℕ). x ∷ follow d i j cs m n (suc t) x (up x gs k)) (first-same (onward d i j cs n t u k) (good w n t u k) (onward-good n t u k l) (w .succs u))
-      ∙ ap (λ (q : List ℕ). v ∷ q) (follow-trace m n (suc t) v (up v gs k) (up-le v gs k l))
+      ap (λ (x : ℕ). x ∷ follow d i j cs m n (suc t) x (raised d j u x k)) (first-same (onward d i j cs n t u k) (good w n t u k) (onward-good n t u k l) (w .succs u))
+      ∙ ap (λ (q : List ℕ). v ∷ q) (follow-trace m n (suc t) v (raised d j u v k) (raised-le d j u v k l))

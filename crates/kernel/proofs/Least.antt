@@ -8,7 +8,6 @@ use mathlib.Core.List.{List, [], _∷_, map, List·Memᴰ as Mem, List·Memᴰ·
 use mathlib.Core.Option.{Option, none, some}
 use native.Mathlib.Nat.{eq-or-lt-of-le, le-trans}
 use native.Mathlib.Omega.{arith}
-use lib.ListN.{length}
 use lib.Dec.{T, eqb, leb, ltb, leb→le, le→leb, ltb→lt, lt→ltb}
 use borrow.Author.Tests.{leb-true, leb-false}
 use Rattle.deck.specs.Lists.{greatest}
@@ -24,12 +23,14 @@ use Rattle.meaning.proofs.Lists.{mem-map, map-mem}
 use Rattle.meaning.proofs.Paths.{free-meant}
 use Rattle.meaning.proofs.LeastPath.{LeastMeant, least-path-meant}
 use Rattle.kernel.specs.Layers.{Parts, pass, back, rest, trace}
-use Rattle.kernel.specs.Goals.{up, lowered}
-use Rattle.kernel.specs.Parts.{freeMove, stepFree, partsOf, stayAfter, stayFrom, restFrom}
+use Rattle.kernel.specs.Goals.{lowered}
+use Rattle.kernel.specs.Labels.{allGoals, firstLabel}
+use Rattle.kernel.specs.Parts.{freeMove, stands, stepFree, partsOf, stayAfter, stayFrom, restFrom}
 use Rattle.kernel.specs.Kernel.{fore, hind, pathAt, meetsAt, LeastTime, NoEarlier}
 use Rattle.kernel.proofs.Both.{and-left, and-right, and-both}
 use Rattle.kernel.proofs.Choice.{lt-or-ge}
-use Rattle.kernel.proofs.Labels.{up-le, lowered-iff}
+use Rattle.kernel.proofs.Labels.{lowered-iff}
+use Rattle.kernel.proofs.OfTask.{first-label-le}
 use Rattle.kernel.proofs.Passes.{Laws}
 use Rattle.kernel.proofs.Trace.{Can, can-at, at-can, front-can, can-front, back-can, can-back, traced-right, none-right}
 use Rattle.kernel.proofs.Finish.{finishAt, served-at, at-served}
@@ -85,6 +86,18 @@ le-cond false s n t h = absurd t
 pub cond-pos : (b : Bool) (s n : ℕ) → n < cond b s 0 → T b × (n < s)
 cond-pos true s n h = (tt, h)
 cond-pos false s n h = absurd (omega arith)
+
+module _ (d : Sheet) (i : Carrier) (j : Task) (cs : List Constraint) (n : ℕ) where
+  -- the backward layer at the start has all goals where one may be there at time 0 and the label there suffices
+  pub hind-meets : (allGoals d j < hind d i j cs n 0 (startOf d i)) ↔ (T (partsOf d i j cs .stand 0 (startOf d i)) × (allGoals d j < firstLabel d i j + back (partsOf d i j cs) n 0 (startOf d i)))
+  unfolding allGoals firstLabel
+  hind-meets =
+      let e = hind-back d i j cs n 0 (startOf d i) in
+      let b : ℕ = back (partsOf d i j cs) n 0 (startOf d i) in
+      let f = lowered-iff (goalsOf d j) (startOf d i) 0 b in (
+        λ h. let a = cond-pos (stands d i cs 0 (startOf d i)) (lowered (startOf d i) (goalsOf d j) b) (allGoals d j) (rw e at h) in (a .0, f .1 (omega (arith, a .1))),
+        λ h. let x = f .0 (h .1) in rw (e, is-true (stands d i cs 0 (startOf d i)) (h .0)) (omega arith),
+      )
 
 module _ (d : Sheet) (i : Carrier) (j : Task) (cs : List Constraint) (start : T (free d (startOf d i))) (end : T (free d (lastGoal d j)))
     (timely : (c : Constraint) → Mem c cs → InTime (d .horizon) c) where
@@ -157,31 +170,24 @@ module _ (d : Sheet) (i : Carrier) (j : Task) (cs : List Constraint) (start : T 
   meets-can n m e = record {
     fact = λ t.
         let a = leb→le (restFrom d i g cs) n (and-left (leb (restFrom d i g cs) n) _ t) in
-        let b = ltb→lt (length (goalsOf d j)) (fore d i j cs n g) (and-right (leb (restFrom d i g cs) n) _ t) in
+        let b = ltb→lt (allGoals d j) (fore d i j cs n g) (and-right (leb (restFrom d i g cs) n) _ t) in
         front-can w (sheet-laws d i j cs start) m n (stay-rest n m a) (rw (fore-front d i j cs n g) at b);
     test = λ c.
-        let b : length (goalsOf d j) < fore d i j cs n g = rw (fore-front d i j cs n g) (can-front w (sheet-laws d i j cs start) m n c) in
-        and-both (leb (restFrom d i g cs) n) _ (le→leb (restFrom d i g cs) n (rest-stay n m e (c .rests) (fore-stands n g (length (goalsOf d j)) b)))
-        (lt→ltb (length (goalsOf d j)) (fore d i j cs n g) b);
+        let b : allGoals d j < fore d i j cs n g = rw (fore-front d i j cs n g) (can-front w (sheet-laws d i j cs start) m n c) in
+        and-both (leb (restFrom d i g cs) n) _ (le→leb (restFrom d i g cs) n (rest-stay n m e (c .rests) (fore-stands n g (allGoals d j) b)))
+        (lt→ltb (allGoals d j) (fore d i j cs n g) b);
   }
 
   -- and so does the test by the backward layers
-  pub hind-can : (n m : ℕ) → n + m ≡ d .horizon → (Can w m n) ↔ ((restFrom d i g cs ≤ n) × (length (goalsOf d j) < hind d i j cs n 0 (startOf d i)))
+  pub hind-can : (n m : ℕ) → n + m ≡ d .horizon → (Can w m n) ↔ ((restFrom d i g cs ≤ n) × (allGoals d j < hind d i j cs n 0 (startOf d i)))
   unfolding meetsAt
   hind-can n m e = (
     λ c. (
       leb→le (restFrom d i g cs) n (and-left (leb (restFrom d i g cs) n) _ (meets-can n m e .test c)),
-      rw (hind-back d i j cs n 0 (startOf d i)) (lowers c),
+      hind-meets d i j cs n .1 (c .stands, can-back w (sheet-laws d i j cs start) m n c),
     ),
-    λ h.
-        let a = cond-pos (w .stand 0 (startOf d i)) (lowered (startOf d i) (goalsOf d j) (back w n 0 (startOf d i))) (length (goalsOf d j)) (rw (hind-back d i j cs n 0 (startOf d i)) at (h .1)) in
-        back-can w (sheet-laws d i j cs start) m n (stay-rest n m (h .0)) (a .0) (lowered-iff (goalsOf d j) (startOf d i) 0 (back w n 0 (startOf d i)) .1 (omega (arith, a .1))),
+    λ h. let a = hind-meets d i j cs n .0 (h .1) in back-can w (sheet-laws d i j cs start) m n (stay-rest n m (h .0)) (a .0) (a .1),
   )
-    where
-      lowers : Can w m n → length (goalsOf d j) < cond (w .stand 0 (startOf d i)) (lowered (startOf d i) (goalsOf d j) (back w n 0 (startOf d i))) 0
-      lowers c =
-          let b = lowered-iff (goalsOf d j) (startOf d i) 0 (back w n 0 (startOf d i)) .0 (can-back w (sheet-laws d i j cs start) m n c) in
-          rw (is-true (w .stand 0 (startOf d i)) (c .stands)) (omega arith)
 
   -- the times at which the task can be finished, where the least is known
   time-can : (r : ℕ) → LeastTime d i j cs r → (n m : ℕ) → n + m ≡ d .horizon → Can w m n → r ≤ n
@@ -199,7 +205,7 @@ module _ (d : Sheet) (i : Carrier) (j : Task) (cs : List Constraint) (start : T 
   time-path r l h =
       let m : ℕ = d .horizon - r in
       let e : r + m ≡ d .horizon = omega arith in
-      let q = follow-trace d i j cs m r 0 (startOf d i) (up (startOf d i) (goalsOf d j) 0) (up-le (startOf d i) (goalsOf d j) 0 zero-le) in
+      let q = follow-trace d i j cs m r 0 (startOf d i) (firstLabel d i j) (first-label-le d j i) in
       rw q
       (right-least d i j cs start timely _
       (traced-right w (sheet-laws d i j cs start) (d .horizon) r m e (meets-can r m e .fact (l .meets h)) (time-can r l)))
@@ -210,8 +216,8 @@ module _ (d : Sheet) (i : Carrier) (j : Task) (cs : List Constraint) (start : T 
   time-finish r l h =
       let m : ℕ = d .horizon - r in
       let e : r + m ≡ d .horizon = omega arith in
-      let q = follow-trace d i j cs m r 0 (startOf d i) (up (startOf d i) (goalsOf d j) 0) (up-le (startOf d i) (goalsOf d j) 0 zero-le) in
-      let p : List ℕ = trace w m r 0 (startOf d i) (up (startOf d i) (goalsOf d j) 0) in
+      let q = follow-trace d i j cs m r 0 (startOf d i) (firstLabel d i j) (first-label-le d j i) in
+      let p : List ℕ = trace w m r 0 (startOf d i) (firstLabel d i j) in
       let s = at-served w laws (settled-start d i j cs start) (settled-step d i j cs start) (d .horizon) p r m e (can-at w laws m r (meets-can r m e .fact (l .meets h))) in
       let f : ℕ = finishAt w p in
       let b : f ≤ d .horizon = s .0 .stays in

@@ -1,6 +1,7 @@
 pub mod Both
 pub mod Choice
 pub mod Labels
+pub mod OfTask
 pub mod Passes
 pub mod Trace
 pub mod Finish

@@ -24,10 +24,12 @@ use Rattle.meaning.proofs.Paths.{path-finish, free-meant, step-meant}
 use Rattle.meaning.proofs.LeastPath.{least-path-is, no-least-path}
 use Rattle.kernel.specs.Layers.{Parts, pass}
 use Rattle.kernel.specs.Goals.{up}
+use Rattle.kernel.specs.Labels.{allGoals, firstLabel, raised}
 use Rattle.kernel.specs.Near.{near}
 use Rattle.kernel.specs.Parts.{barsPlace, barsMove, freePlace, freeMove, stands, stepFree, partsOf}
 use Rattle.kernel.proofs.Both.{and-left, and-right, and-both}
-use Rattle.kernel.proofs.Labels.{up-ge, up-le, up-mono, up-twice, lowered-iff, left-after, visited, visited-le}
+use Rattle.kernel.proofs.Labels.{up-ge, up-le, up-twice, left-after, visited, visited-le}
+use Rattle.kernel.proofs.OfTask.{first-label-le, raised-le, raised-mono, before-step, after-step}
 use Rattle.kernel.proofs.Near.{wide-of, beside-turned, beside-near, self-near, near-rising}
 use Rattle.kernel.proofs.Passes.{Laws, Goes, after, step-of}
 use Rattle.kernel.proofs.Trace.{Right}
@@ -114,23 +116,26 @@ module _ (d : Sheet) (i : Carrier) (j : Task) (cs : List Constraint) (start : T 
   start-free = free-meant d (startOf d i) .fact start
 
   pub sheet-laws : Laws w
+  unfolding raised allGoals
   sheet-laws = record {
     onward = λ t u v h. step-around d u v (and-left (stepFree d u v) (freeMove i cs t u v) h);
     behind = λ t u v h. let r = step-free-meant d u v .fact (and-left (stepFree d u v) (freeMove i cs t u v) h) in
         ⊎-elim (λ e. subst (λ (x : ℕ). Mem x (w .preds v)) (sym e) (self-near d v)) (λ b. beside-near d v u (r .1 .0 .on-grid) (r .0 .on-grid) (beside-turned d u v (b .1))) (r .1 .1);
     rising = near-rising d (wide-of (d .width) (d .height) (startOf d i) (start-free .on-grid));
-    begun = up-le (startOf d i) gs 0 zero-le;
-    mono = λ u v k b l. up-mono v gs k b l;
-    within = λ u v k l. up-le v gs k l;
+    begun = first-label-le d j i;
+    mono = raised-mono d j;
+    within = raised-le d j;
     full = omega (arith, up-ge (lastGoal d j) gs (length gs), up-le (lastGoal d j) gs (length gs) (le-refl (length gs)));
-    before = λ u v k b h. lowered-iff gs v k b .0 h;
-    beyond = λ u v k b l h. lowered-iff gs v k b .1 h;
+    before = before-step d j i cs;
+    beyond = after-step d j i cs;
   }
 
   pub settled-start : Settled w (w .start) (w .fresh)
+  unfolding raised firstLabel
   settled-start e = subst (λ (x : ℕ). up x gs (w .fresh) ≡ w .fresh) e (up-twice (startOf d i) gs 0)
 
   pub settled-step : (u v k : ℕ) → Settled w v (w .raise u v k)
+  unfolding raised
   settled-step u v k e = subst (λ (x : ℕ). up x gs (up v gs k) ≡ up v gs k) e (up-twice v gs k)
 
   -- the goals that are left, and the label
@@ -138,19 +143,23 @@ module _ (d : Sheet) (i : Carrier) (j : Task) (cs : List Constraint) (start : T 
   label q = visited gs (w .fresh) q
 
   after-label : (u k : ℕ) (q : List ℕ) → after w u k q ≡ visited gs k q
+  unfolding raised
   after-label u k [] = refl
   after-label u k (v ∷ q) = after-label v (up v gs k) q
 
   left-label : (q : List ℕ) → left (startOf d i ∷ q) gs ≡ drop (label q) gs
+  unfolding firstLabel
   left-label q = left-after gs 0 (startOf d i ∷ q)
 
   whole-of : (q : List ℕ) → left (startOf d i ∷ q) gs ≡ [] → label q ≡ w .whole
+  unfolding allGoals
   whole-of q e =
       let b = nil-le gs (label q) (sym (left-label q) ∙ e) in
-      let c = visited-le gs (w .fresh) q (up-le (startOf d i) gs 0 zero-le) in
+      let c = visited-le gs (w .fresh) q (first-label-le d j i) in
       omega arith
 
   of-whole : (q : List ℕ) → label q ≡ w .whole → left (startOf d i ∷ q) gs ≡ []
+  unfolding allGoals
   of-whole q a = left-label q ∙ drop-of-length-le gs {i = label q} (omega (arith, a))
 
   -- what a path that keeps the constraints does is allowed

@@ -5,7 +5,6 @@ use mathlib.Core.Path.{_≡_, refl, ap}
 use mathlib.Core.Bool.{true, _&&_}
 use mathlib.Core.List.{[], reverse, List·Memᴰ as Mem, List·Memᴰ·not-nil as not-nil}
 use native.Mathlib.Omega.{arith}
-use lib.ListN.{length}
 use lib.Dec.{T}
 use Rattle.deck.specs.Sheet.{Sheet, free, startOf, goalsOf, lastGoal}
 use Rattle.deck.specs.Paths.{leastPath}
@@ -13,6 +12,7 @@ use Rattle.deck.specs.Assignments.{barred, entryOf}
 use Rattle.deck.specs.declared.Carrier.{Carrier}
 use Rattle.deck.specs.declared.Task.{Task}
 use Rattle.deck.specs.declared.Constraint.{Constraint}
+use Rattle.kernel.specs.Labels.{allGoals}
 use Rattle.kernel.specs.Parts.{freePlace, freeMove, stepFree, stayFrom, restFrom}
 use Rattle.kernel.specs.Near.{near}
 use Rattle.kernel.specs.Kernel.{settle, hind, LeastTime}
@@ -38,8 +38,8 @@ rest-none d i g = rest-from-is d i g []
 module _ (d : Sheet) (i : Carrier) (j : Task) (start : T (free d (startOf d i))) (end : T (free d (lastGoal d j))) where
   -- r steps before the last goal the start has every goal for the first time, or has not within the horizon
   pub record FirstSteps (r : ℕ) : Type 0 where
-    pub has : r ≤ d .horizon → length (goalsOf d j) < hind d i j [] r 0 (startOf d i)
-    pub first : (n : ℕ) → n ≤ d .horizon → length (goalsOf d j) < hind d i j [] n 0 (startOf d i) → r ≤ n
+    pub has : r ≤ d .horizon → allGoals d j < hind d i j [] r 0 (startOf d i)
+    pub first : (n : ℕ) → n ≤ d .horizon → allGoals d j < hind d i j [] n 0 (startOf d i) → r ≤ n
 
   steps-time : (r : ℕ) → FirstSteps r → LeastTime d i j [] r
   steps-time r f = record {

@@ -5,7 +5,7 @@ use mathlib.Core.Path.{_≡_}
 use mathlib.Core.Bool.{Bool, cond, _&&_}
 use mathlib.Core.List.{List, _∷_, reverse}
 use mathlib.Core.Option.{some}
-use lib.ListN.{length, replicate}
+use lib.ListN.{replicate}
 use lib.Dec.{T, eqb, leb, ltb}
 use Rattle.deck.specs.Sheet.{Sheet, free, startOf, goalsOf, lastGoal}
 use Rattle.deck.specs.Paths.{leastPath, finishOf}
@@ -14,6 +14,7 @@ use Rattle.deck.specs.declared.Task.{Task}
 use Rattle.deck.specs.declared.Constraint.{Constraint}
 use Rattle.kernel.specs.Layers.{Parts, best, firstOf, lift, back}
 use Rattle.kernel.specs.Goals.{up}
+use Rattle.kernel.specs.Labels.{allGoals, firstLabel, raised}
 use Rattle.kernel.specs.Parts.{partsOf, restFrom}
 
 -- a layer: a number for each place. At v what lies there is raised by v itself, and is 0 where one may not be
@@ -44,21 +45,21 @@ module _ (d : Sheet) (i : Carrier) (j : Task) (cs : List Constraint) where
 
   -- with the label k on u at t, a step to v is allowed and n steps after it the task is finished
   unfoldable pub onward : ℕ → ℕ → ℕ → ℕ → ℕ → Bool
-  onward n t u k v = parts .step t u v && ltb (length (goalsOf d j)) (k + hind n (suc t) v)
+  onward n t u k v = parts .step t u v && ltb (allGoals d j) (k + hind n (suc t) v)
 
   -- the places after u: n steps, each to the least place that keeps the time, then m steps on the last goal
   unfoldable pub follow : ℕ → ℕ → ℕ → ℕ → ℕ → List ℕ
   follow m zero t u k = replicate m (lastGoal d j)
   follow m (suc n) t u k =
-      let v = firstOf (onward n t u k) (parts .succs u) in v ∷ follow m n (suc t) v (up v (goalsOf d j) k)
+      let v = firstOf (onward n t u k) (parts .succs u) in v ∷ follow m n (suc t) v (raised d j u v k)
 
   -- the path with the finish n, where m steps are left then
   unfoldable pub pathAt : ℕ → ℕ → List ℕ
-  pathAt m n = startOf d i ∷ follow m n 0 (startOf d i) (up (startOf d i) (goalsOf d j) 0)
+  pathAt m n = startOf d i ∷ follow m n 0 (startOf d i) (firstLabel d i j)
 
   -- at n all goals can be visited with the carrier on the last goal, and it may stay there
   unfoldable pub meetsAt : ℕ → Bool
-  meetsAt n = leb (restFrom d i (lastGoal d j) cs) n && ltb (length (goalsOf d j)) (fore n (lastGoal d j))
+  meetsAt n = leb (restFrom d i (lastGoal d j) cs) n && ltb (allGoals d j) (fore n (lastGoal d j))
 
   -- r is the least time at which the task can be finished, and above the horizon where there is none
   pub record LeastTime (r : ℕ) : Type 0 where
@@ -72,5 +73,5 @@ module _ (d : Sheet) (i : Carrier) (j : Task) (cs : List Constraint) where
   -- on u at t with the label k the task can be finished n steps later
   pub record OnTime (n t u k : ℕ) : Type 0 where
     pub on-free : T (free d u)
-    pub label : k ≤ length (goalsOf d j)
-    pub comes : length (goalsOf d j) < k + back parts n t u
+    pub label : k ≤ allGoals d j
+    pub comes : allGoals d j < k + back parts n t u

@@ -1,5 +1,6 @@
 pub mod Layers
 pub mod Goals
+pub mod Labels
 pub mod Near
 pub mod Parts
 pub mod Kernel

@@ -2,7 +2,6 @@
 use Prim.Native.Nat.{ℕ, suc}
 use mathlib.Core.Bool.{Bool, false, _&&_, not, cond}
 use mathlib.Core.List.{List, map}
-use lib.ListN.{length}
 use lib.Dec.{eqb}
 use Rattle.deck.specs.Lists.{all, greatest}
 use Rattle.deck.specs.Sheet.{Sheet, free, startOf, goalsOf, lastGoal}
@@ -12,7 +11,8 @@ use Rattle.deck.specs.declared.Task.{Task}
 use Rattle.deck.specs.declared.Constraint.{Constraint}
 use Rattle.deck.specs.declared.Constraint.the-variants.{Place, Move}
 use Rattle.kernel.specs.Layers.{Parts}
-use Rattle.kernel.specs.Goals.{up, lowered}
+use Rattle.kernel.specs.Goals.{lowered}
+use Rattle.kernel.specs.Labels.{allGoals, firstLabel, raised}
 use Rattle.kernel.specs.Near.{near}
 
 -- the constraint bars the carrier from u at t
@@ -49,9 +49,9 @@ partsOf d i j cs =
       preds = near d;
       start = startOf d i;
       end = lastGoal d j;
-      fresh = up (startOf d i) (goalsOf d j) 0;
-      whole = length (goalsOf d j);
-      raise = λ u v k. up v (goalsOf d j) k;
+      fresh = firstLabel d i j;
+      whole = allGoals d j;
+      raise = raised d j;
       lower = λ u v b. lowered v (goalsOf d j) b;
     }
 

@@ -12,6 +12,7 @@ use Rattle.deck.specs.Sheet.{read, area, startOf, goalsOf}
 use Rattle.deck.specs.Calls.{constraintsOf}
 use Rattle.deck.specs.declared.Carrier.{Carrier}
 use Rattle.deck.specs.declared.Task.{Task}
+use Rattle.kernel.specs.Labels.{allGoals}
 use Rattle.kernel.specs.Kernel.{hind}
 use Rattle.bars.specs.Padded.{padOf, Holds}
 use Rattle.bars.specs.Bars.{countIn, Chained}
@@ -19,7 +20,7 @@ use Rattle.layers.specs.Step.{Margin}
 use Rattle.layers.specs.Packed.{Kept, wordsFor, Laid}
 use Rattle.layers.proofs.Keeping.{kept-laid, laid-stays, words-fit}
 use Rattle.passes.specs.Ready.{Ready, Turned, roomFor, layerAt, Backed}
-use Rattle.passes.proofs.Given.{wide-one, wide-most, high-most, horizon-most}
+use Rattle.passes.proofs.Given.{wide-one, wide-most, high-most, horizon-most, all-counted}
 
 -- words past the links leave the chains
 chained-stays : {rs : List ℕ} {i : ℕ} {heads work after : List ℕ} → length after ≡ length work → ((p : ℕ) → p < countIn rs → getD after p 0 ≡ getD work p 0)
@@ -115,12 +116,12 @@ module _ (s : List ℕ) (i : Carrier) (j : Task) (mask rs : List ℕ) (r : Ready
   -- the answer, read off the layer of time 0 at the start
   pub back-answer : (end t w n p v : ℕ) {x : List ℕ} → Holds (read s) x (hind (read s) i j (constraintsOf rs) (end - t) t) → t ≡ 0 → w ≡ read s .width
       → n ≡ length (goalsOf (read s) j) → p ≡ padOf w (startOf (read s) i) → v ≡ getD x p 0
-      → ltb n v ≡ ltb (length (goalsOf (read s) j)) (hind (read s) i j (constraintsOf rs) end 0 (startOf (read s) i))
+      → ltb n v ≡ ltb (allGoals (read s) j) (hind (read s) i j (constraintsOf rs) end 0 (startOf (read s) i))
   back-answer end t w n p v {x} h e ew en ep ev =
       let z : end - t ≡ end = omega arith in
       let y : Holds (read s) x (hind (read s) i j (constraintsOf rs) end 0)
       = subst (λ (k : ℕ). Holds (read s) x (hind (read s) i j (constraintsOf rs) end k)) e (subst (λ (k : ℕ). Holds (read s) x (hind (read s) i j (constraintsOf rs) k t)) z h) in
-      ap₂ ltb en (ev ∙ ap (λ (k : ℕ). getD x k 0) (ep ∙ ap (λ (k : ℕ). padOf k (startOf (read s) i)) ew) ∙ y .inside (startOf (read s) i) (start-on-grid s (r .accepted) i))
+      ap₂ ltb (all-counted r en) (ev ∙ ap (λ (k : ℕ). getD x k 0) (ep ∙ ap (λ (k : ℕ). padOf k (startOf (read s) i)) ew) ∙ y .inside (startOf (read s) i) (start-on-grid s (r .accepted) i))
 
   -- the first layer of the pass, in the loop's numbers
   pub first-holds : (end : ℕ) {x : List ℕ} → Holds (read s) x (hind (read s) i j (constraintsOf rs) 0 end) → Holds (read s) x (hind (read s) i j (constraintsOf rs) (end - end) end)

@@ -1,6 +1,6 @@
 -- What a ready sheet with good records gives. Assumes nothing.
 use Prim.Native.Nat.{ℕ, zero, suc, _/_, _%_, _≤_, _<_}
-use mathlib.Core.Path.{_≡_, sym, subst}
+use mathlib.Core.Path.{_≡_, sym, _∙_, subst}
 use mathlib.Core.Bool.{Bool}
 use mathlib.Core.List.{List, List·Memᴰ as Mem}
 use native.Mathlib.Omega.{arith}
@@ -17,7 +17,9 @@ use Rattle.meaning.proofs.Lists.{mem-below}
 use Rattle.meaning.proofs.ListTests.{says-all}
 use Rattle.meaning.proofs.Accepted.{accepted-horizon}
 use Rattle.sheet.proofs.Accepted.{width-range, height-range, area-range, start-free, goals-range, last-goal-free}
+use Rattle.kernel.specs.Labels.{allGoals}
 use Rattle.kernel.proofs.Both.{and-left, and-right}
+use Rattle.kernel.proofs.OfTask.{all-goals-is}
 use Rattle.kernel.proofs.OfSheet.{InTime}
 use Rattle.bars.specs.Padded.{padOf}
 use Rattle.bars.specs.Bars.{countIn, Timely, OnLayer}
@@ -99,6 +101,13 @@ module _ {s : List ℕ} {i : Carrier} {j : Task} {mask rs : List ℕ} (r : Ready
 
   pub few-goals : length (goalsOf (read s) j) ≤ 8
   few-goals = goals-range s (r .accepted) (j .0) (r .task-in) .1
+
+  pub few-labels : allGoals (read s) j ≤ 8
+  few-labels = omega (arith, few-goals, all-goals-is (read s) j)
+
+  -- the number of goals that is read off the sheet is the label of all goals
+  pub all-counted : {n : ℕ} → n ≡ length (goalsOf (read s) j) → n ≡ allGoals (read s) j
+  all-counted e = e ∙ sym (all-goals-is (read s) j)
 
   -- a padded place is an index of a layer
   pub pad-small : (v : ℕ) → v < area (read s) → padOf (read s .width) v < 1156

@@ -15,6 +15,7 @@ use Rattle.deck.specs.declared.Carrier.{Carrier}
 use Rattle.deck.specs.declared.Task.{Task}
 use Rattle.deck.specs.declared.Constraint.{Constraint}
 use Rattle.sheet.proofs.Accepted.{goal-on-grid, last-goal-on-grid, start-on-grid}
+use Rattle.kernel.specs.Labels.{allGoals}
 use Rattle.kernel.specs.Parts.{restFrom}
 use Rattle.kernel.specs.Kernel.{fore, hind, meetsAt, LeastTime}
 use Rattle.kernel.proofs.Both.{and-left, and-right, and-both}
@@ -28,7 +29,7 @@ use Rattle.layers.specs.Step.{nextLayer, Ground, Labels, Margin, Stepped, Seede
 use Rattle.layers.proofs.Stepping.{holds-margin}
 use Rattle.passes.specs.Ready.{Ready, Goals, Turned, Early}
 use Rattle.passes.proofs.Turning.{reverse-at, goals-index}
-use Rattle.passes.proofs.Given.{wide-one, wide-most, high-one, high-most, begins-free, ends-free, few-goals, few-records, on-layer, pad-small}
+use Rattle.passes.proofs.Given.{wide-one, wide-most, high-one, high-most, begins-free, ends-free, few-goals, few-labels, all-counted, few-records, on-layer, pad-small}
 
 pub holds-same : {d : Sheet} {x : List ℕ} {f g : ℕ → ℕ} → ((v : ℕ) → f v ≡ g v) → Holds d x f → Holds d x g
 holds-same e h = record { size = h .size; inside = λ v l. h .inside v l ∙ e v; border = h .border }
@@ -46,13 +47,13 @@ module _ (s : List ℕ) (i : Carrier) (j : Task) (mask rs : List ℕ) (r : Ready
   -- Labels pass through the mask whole, and vanish at blocked places
   fore-labels : (t : ℕ) → Labels d (fore d i j cs t)
   fore-labels t = record {
-    small = λ v. omega (arith, fore-le d i j cs t v, few-goals r);
+    small = λ v. omega (arith, fore-le d i j cs t v, few-labels r);
     blocked = fore-blocked d i j cs (begins-free r) t;
   }
 
   hind-labels : (n t : ℕ) → Labels d (hind d i j cs n t)
   hind-labels n t = record {
-    small = λ v. omega (arith, hind-le d i j cs n t v, few-goals r);
+    small = λ v. omega (arith, hind-le d i j cs n t v, few-labels r);
     blocked = hind-blocked d i j cs (ends-free r) n t;
   }
 
@@ -141,14 +142,14 @@ module _ (s : List ℕ) (i : Carrier) (j : Task) (mask rs : List ℕ) (r : Ready
         let q : T (leb from t && ltb n (getD a p 0)) = subst T (sym e ∙ eb) tt in
         let x = leb→le from t (and-left (leb from t) (ltb n (getD a p 0)) q) in
         let y = ltb→lt n (getD a p 0) (and-right (leb from t) (ltb n (getD a p 0)) q) in
-        and-both (leb (restFrom d i (lastGoal d j) cs) t) (ltb many (fore d i j cs t (lastGoal d j)))
-        (le→leb (restFrom d i (lastGoal d j) cs) t (omega (arith, f .stay))) (lt→ltb many (fore d i j cs t (lastGoal d j)) (omega (arith, at-goal)))
+        and-both (leb (restFrom d i (lastGoal d j) cs) t) (ltb (allGoals d j) (fore d i j cs t (lastGoal d j)))
+        (le→leb (restFrom d i (lastGoal d j) cs) t (omega (arith, f .stay))) (lt→ltb (allGoals d j) (fore d i j cs t (lastGoal d j)) (omega (arith, at-goal, all-counted r en)))
 
     pub met-false : b ≡ false → ¬ T (meetsAt d i j cs t)
     unfolding meetsAt
     met-false e m =
-        let y = ltb→lt many (fore d i j cs t (lastGoal d j)) (and-right (leb (restFrom d i (lastGoal d j) cs) t) (ltb many (fore d i j cs t (lastGoal d j))) m) in
-        subst T (sym eb ∙ e) (and-both (leb from t) (ltb n (getD a p 0)) (le→leb from t (f .early t l m)) (lt→ltb n (getD a p 0) (omega (arith, at-goal))))
+        let y = ltb→lt (allGoals d j) (fore d i j cs t (lastGoal d j)) (and-right (leb (restFrom d i (lastGoal d j) cs) t) (ltb (allGoals d j) (fore d i j cs t (lastGoal d j))) m) in
+        subst T (sym eb ∙ e) (and-both (leb from t) (ltb n (getD a p 0)) (le→leb from t (f .early t l m)) (lt→ltb n (getD a p 0) (omega (arith, at-goal, all-counted r en))))
 
     pub time-here : NotYet t → b ≡ true → LeastTime d i j cs t
     time-here never e = record {

@@ -8,8 +8,9 @@ ghost use mathlib.Core.List.{reverse};
 ghost use Prim.Native.Nat.{ℕ, _+_, _-_, _*_, _<_, _≤_};
 ghost use lib.ListN.{length, getD};
 ghost use lib.Dec.{leb, ltb};
-ghost use Rattle.deck.specs.Sheet.{read, startOf, goalsOf, cause};
+ghost use Rattle.deck.specs.Sheet.{read, startOf, cause};
 ghost use Rattle.deck.specs.Calls.{constraintsOf};
+ghost use Rattle.kernel.specs.Labels.{allGoals};
 ghost use Rattle.kernel.specs.Kernel.{hind, LeastTime};
 ghost use Rattle.bars.specs.Padded.{Holds};
 ghost use Rattle.bars.specs.Bars.{Chained};
@@ -188,7 +189,7 @@ pub fn backward(
     work: &mut [u32],
 ) -> bool
     requires { ⌜ Ready (now s) i j (now mask) (now records) × Turned (now s) j (now goals) × (end ≤ read (now s) .horizon) × Chained (now records) (i .0) (now heads) (now work) × (roomFor (now s) (now records) ≤ length (now work)) ⌝ }
-    ensures { λ r. ⌜ (r ≡ ltb (length (goalsOf (read (now (s .entry))) j)) (hind (read (now (s .entry))) i j (constraintsOf (now (records .entry))) end 0 (startOf (read (now (s .entry))) i))) × Backed (now (s .entry)) i j (now (records .entry)) (now (heads .entry)) end 0 (now (work .exit)) ⌝ }
+    ensures { λ r. ⌜ (r ≡ ltb (allGoals (read (now (s .entry))) j) (hind (read (now (s .entry))) i j (constraintsOf (now (records .entry))) end 0 (startOf (read (now (s .entry))) i))) × Backed (now (s .entry)) i j (now (records .entry)) (now (heads .entry)) end 0 (now (work .exit)) ⌝ }
 {
     let w = sheet::width(s);
     let h = sheet::height(s);

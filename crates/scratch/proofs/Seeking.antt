@@ -10,12 +10,13 @@ use native.Mathlib.Omega.{arith}
 use lib.ListN.{length, take, drop, length-take, length-drop}
 use lib.Dec.{T, ltb, lt→ltb}
 use borrow.Author.Tests.{ltb-true, ltb-false}
-use Rattle.deck.specs.Sheet.{Sheet, read, startOf, goalsOf}
+use Rattle.deck.specs.Sheet.{Sheet, read, startOf}
 use Rattle.deck.specs.Paths.{finishOf}
 use Rattle.deck.specs.Calls.{constraintsOf}
 use Rattle.deck.specs.declared.Carrier.{Carrier}
 use Rattle.deck.specs.declared.Task.{Task}
 use Rattle.deck.specs.declared.Constraint.{Constraint}
+use Rattle.kernel.specs.Labels.{allGoals}
 use Rattle.kernel.specs.Kernel.{hind, pathAt, meetsAt, LeastTime, NoEarlier}
 use Rattle.meaning.proofs.Tests.{is-true}
 use Rattle.kernel.proofs.Least.{meets-can, hind-can, no-time-none, time-path, time-finish}
@@ -77,7 +78,7 @@ module _ (s : List ℕ) (i : Carrier) (j : Task) (mask rs : List ℕ) (r : Ready
     -- the walk found the path
     walk-found : Walked d i j cs from before after WalkFound → SoughtFor d i j cs before after (Found from)
     walk-found w =
-        let t = guess-least s i j mask rs r from e le {b = true} (sym (is-true _ (lt→ltb (length (goalsOf d j)) (hind d i j cs from 0 (startOf d i)) (w .0)))) refl in
+        let t = guess-least s i j mask rs r from e le {b = true} (sym (is-true _ (lt→ltb (allGoals d j) (hind d i j cs from 0 (startOf d i)) (w .0)))) refl in
         answers-found s i j mask rs r from t le before after (w .1)
 
     -- no path finishes then
@@ -91,7 +92,7 @@ module _ (s : List ℕ) (i : Carrier) (j : Task) (mask rs : List ℕ) (r : Ready
         next n l m (no z) = omega (arith, e .early n l m)
         next n l m (yes z) =
             let c = meets-can d i j cs (begins-free r) (ends-free r) (in-time r) n (d .horizon - n) (omega arith) .fact m in
-            absurd (w .0 (subst (λ (x : ℕ). length (goalsOf d j) < hind d i j cs x 0 (startOf d i)) z (hind-can d i j cs (begins-free r) (ends-free r) (in-time r) n (d .horizon - n) (omega arith) .0 c .1)))
+            absurd (w .0 (subst (λ (x : ℕ). allGoals d j < hind d i j cs x 0 (startOf d i)) z (hind-can d i j cs (begins-free r) (ends-free r) (in-time r) n (d .horizon - n) (omega arith) .0 c .1)))
 
   -- by the walk's answer, where nothing was written before it
   module _ (from : ℕ) (e : Early s i j rs from) (le : from ≤ d .horizon) (first before after : List ℕ) (same : before ≡ first) (a : Tried) (w : Walked d i j cs from before after a) where

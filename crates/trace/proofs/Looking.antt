@@ -8,7 +8,7 @@ use native.Mathlib.Omega.{arith}
 use lib.ListN.{length, getD}
 use lib.Dec.{T, ltb}
 use borrow.Author.Tests.{eq-eqb, ne-eqb, lt-ltb, le-ltb}
-use Rattle.deck.specs.Sheet.{Sheet, free, goalsOf}
+use Rattle.deck.specs.Sheet.{Sheet, free, startOf, goalsOf}
 use Rattle.deck.specs.Calls.{constraintsOf}
 use Rattle.deck.specs.declared.Carrier.{Carrier}
 use Rattle.deck.specs.declared.Task.{Task}
@@ -16,9 +16,11 @@ use Rattle.deck.specs.declared.Constraint.{Constraint}
 use Rattle.meaning.proofs.Tests.{is-true}
 use Rattle.meaning.proofs.Paths.{free-meant}
 use Rattle.kernel.specs.Goals.{up}
+use Rattle.kernel.specs.Labels.{allGoals, firstLabel, raised}
 use Rattle.kernel.specs.Parts.{freeMove, stepFree}
 use Rattle.kernel.specs.Kernel.{hind, onward}
 use Rattle.kernel.proofs.Both.{and-left, and-turned}
+use Rattle.kernel.proofs.OfTask.{first-label-is, raised-is}
 use Rattle.kernel.proofs.OfSheet.{step-free-meant}
 use Rattle.bars.specs.Padded.{padOf}
 use Rattle.bars.specs.Ways.{turnOf, moveBy}
@@ -38,17 +40,25 @@ up-run (g ∷ gs) v zero (suc r) a b p s =
 up-run (g ∷ gs) v (suc k) zero a b p s = absurd (omega arith)
 up-run (g ∷ gs) v (suc k) (suc r) a b p s = ap suc (up-run gs v k r (omega arith) (omega arith) (λ m x y. p (suc m) (omega arith) (omega arith)) (λ l. s (omega arith)))
 
-pub visited-up : (w : ℕ) → 0 < w → (gs goals : List ℕ) (n v p k r : ℕ) → GoalsAt w gs goals n → p ≡ padOf w v → Visited goals n p k r → r ≡ up v gs k
+visited-up : (w : ℕ) → 0 < w → (gs goals : List ℕ) (n v p k r : ℕ) → GoalsAt w gs goals n → p ≡ padOf w v → Visited goals n p k r → r ≡ up v gs k
 visited-up w z gs goals n v p k r g e x =
     up-run gs v k r (x .from) (omega (arith, x .within, g .many))
     (λ m a b. pad-inj w (getD gs m 0) v z (sym (g .at m (omega (arith, x .within))) ∙ x .passed m a b ∙ e))
     (λ l h. x .stops (omega (arith, g .many)) (g .at r (omega (arith, g .many)) ∙ ap (padOf w) h ∙ sym e))
 
+-- so the code counts as the labels of a task do
+module _ (d : Sheet) (j : Task) (w : ℕ) (z : 0 < w) (goals : List ℕ) (n : ℕ) (g : GoalsAt w (goalsOf d j) goals n) where
+  pub visited-first : (i : Carrier) (p r : ℕ) → p ≡ padOf w (startOf d i) → Visited goals n p 0 r → r ≡ firstLabel d i j
+  visited-first i p r e x = visited-up w z (goalsOf d j) goals n (startOf d i) p 0 r g e x ∙ sym (first-label-is d j i)
+
+  pub visited-raised : (u v p k r : ℕ) → p ≡ padOf w v → Visited goals n p k r → r ≡ raised d j u v k
+  visited-raised u v p k r e x = visited-up w z (goalsOf d j) goals n v p k r g e x ∙ sym (raised-is d j u v k)
+
 -- where a step is allowed, the test by the kept layer is the test of the trace
 pub way-onward : (d : Sheet) (i : Carrier) (j : Task) (cs : List Constraint) (n t u k q m : ℕ) → T (stepFree d u q) → m ≡ hind d i j cs n (suc t) q
-    → (ltb (length (goalsOf d j)) (k + m) && freeMove i cs t u q) ≡ onward d i j cs n t u k q
+    → (ltb (allGoals d j) (k + m) && freeMove i cs t u q) ≡ onward d i j cs n t u k q
 unfolding onward
-way-onward d i j cs n t u k q m h e = rw (e, is-true (stepFree d u q) h) (and-turned (ltb (length (goalsOf d j)) (k + hind d i j cs n (suc t) q)) (freeMove i cs t u q))
+way-onward d i j cs n t u k q m h e = rw (e, is-true (stepFree d u q) h) (and-turned (ltb (allGoals d j) (k + hind d i j cs n (suc t) q)) (freeMove i cs t u q))
 
 -- the trace goes to free places
 pub onward-free : (d : Sheet) (i : Carrier) (j : Task) (cs : List Constraint) (n t u k q : ℕ) → T (onward d i j cs n t u k q) → T (free d q)

@@ -6,10 +6,10 @@ use mathlib.Core.Bool.{Bool, true, false, not, _&&_, false≢true}
 use mathlib.Core.List.{List}
 use native.Mathlib.Numerals.{add-one}
 use native.Mathlib.Omega.{arith}
-use lib.ListN.{length, getD}
+use lib.ListN.{getD}
 use lib.Dec.{T, eqb, ltb}
 use borrow.Author.Tests.{eq-eqb, eqb-true}
-use Rattle.deck.specs.Sheet.{Sheet, read, area, free, goalsOf}
+use Rattle.deck.specs.Sheet.{Sheet, read, area, free}
 use Rattle.deck.specs.Calls.{constraintsOf}
 use Rattle.deck.specs.declared.Carrier.{Carrier}
 use Rattle.deck.specs.declared.Task.{Task}
@@ -17,6 +17,7 @@ use Rattle.meaning.proofs.Tests.{is-true, is-false}
 use Rattle.meaning.proofs.Paths.{free-meant}
 use Rattle.sheet.proofs.Accepted.{area-range}
 use Rattle.kernel.specs.Layers.{firstOf}
+use Rattle.kernel.specs.Labels.{allGoals}
 use Rattle.kernel.specs.Near.{near}
 use Rattle.kernel.specs.Parts.{freeMove}
 use Rattle.kernel.specs.Kernel.{hind, onward, OnTime}
@@ -29,7 +30,7 @@ use Rattle.bars.proofs.Leads.{turn-most, leads, mask-by, step-by, first-by, no-
 use Rattle.layers.specs.Packed.{keptAt}
 use Rattle.layers.proofs.Keeping.{byte-in}
 use Rattle.passes.specs.Ready.{Ready, layerAt, Backed}
-use Rattle.passes.proofs.Given.{wide-one, wide-most, high-most, horizon-most, few-goals, few-records, pad-small}
+use Rattle.passes.proofs.Given.{wide-one, wide-most, high-most, horizon-most, few-labels, few-records, pad-small}
 use Rattle.passes.proofs.Backing.{layer-in, times-words}
 use Rattle.trace.specs.declared.Look.{Look}
 use Rattle.trace.specs.Along.{spotOf, byteOf, wayOn, FirstWay, Sees, Inside}
@@ -41,7 +42,7 @@ module _ (s : List ℕ) (i : Carrier) (j : Task) (mask rs : List ℕ) (r : Ready
   d = read s
 
   abbrev many : ℕ
-  many = length (goalsOf (read s) j)
+  many = allGoals (read s) j
 
   abbrev look : ℕ → ℕ → ℕ → ℕ → Look
   look w at p n = record { i = i; t = t; u = u; p = p; w = w; at = at; n = n; k = k }
@@ -61,7 +62,7 @@ module _ (s : List ℕ) (i : Carrier) (j : Task) (mask rs : List ℕ) (r : Ready
   place = layerAt s rs (t + 1)
 
   abbrev here : Look
-  here = look (read s .width) (layerAt s rs (t + 1)) (padOf (read s .width) u) (length (goalsOf (read s) j))
+  here = look (read s .width) (layerAt s rs (t + 1)) (padOf (read s .width) u) (allGoals (read s) j)
 
   inside : (q : ℕ) → q < area d → Inside work here (padOf (d .width) q - (d .width + 2))
   inside q h = (
@@ -116,7 +117,7 @@ module _ (s : List ℕ) (i : Carrier) (j : Task) (mask rs : List ℕ) (r : Ready
       in-time = omega (arith, horizon-most r);
       few = few-records r;
       chained = bk .chained;
-      label = omega (arith, o .label, few-goals r);
+      label = omega (arith, o .label, few-labels r);
       width = wide-one r;
       narrow = wide-most r;
       place = let q : u < 1024 = omega (arith, on, area-range s (r .accepted) .1) in q;

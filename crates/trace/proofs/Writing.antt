@@ -9,13 +9,13 @@ use native.Mathlib.Omega.{arith}
 use lib.ListN.{length, getD, drop, set, replicate, length-append, length-drop, length-set, length-replicate, getD-replicate, List·getD-append}
 use lib.Seq.{drop-drop, getD-drop, getD-append-add, getD-set-same, getD-set-other, ext-getD}
 use lib.Dec.{T}
-use Rattle.deck.specs.Sheet.{Sheet, free, startOf, goalsOf, lastGoal}
+use Rattle.deck.specs.Sheet.{Sheet, free, startOf, lastGoal}
 use Rattle.deck.specs.Calls.{overwrite}
 use Rattle.deck.specs.declared.Carrier.{Carrier}
 use Rattle.deck.specs.declared.Task.{Task}
 use Rattle.deck.specs.declared.Constraint.{Constraint}
 use Rattle.kernel.specs.Layers.{firstOf}
-use Rattle.kernel.specs.Goals.{up}
+use Rattle.kernel.specs.Labels.{firstLabel, raised}
 use Rattle.kernel.specs.Near.{near}
 use Rattle.kernel.specs.Kernel.{onward, follow, pathAt, OnTime}
 use Rattle.kernel.proofs.Choice.{lt-or-ge}
@@ -32,11 +32,11 @@ module _ (d : Sheet) (i : Carrier) (j : Task) (cs : List Constraint) (end : ℕ)
   length-follow : (n t u k : ℕ) → length (follow d i j cs m n t u k) ≡ n + m
   unfolding follow
   length-follow zero t u k = length-replicate m (lastGoal d j) ∙ omega arith
-  length-follow (suc n) t u k = let e = length-follow n (suc t) (firstOf (onward d i j cs n t u k) (near d u)) (up (firstOf (onward d i j cs n t u k) (near d u)) (goalsOf d j) k) in omega arith
+  length-follow (suc n) t u k = let e = length-follow n (suc t) (firstOf (onward d i j cs n t u k) (near d u)) (raised d j u (firstOf (onward d i j cs n t u k) (near d u)) k) in omega arith
 
   pub whole-length : end ≤ d .horizon → length whole ≡ suc (d .horizon)
   unfolding pathAt
-  whole-length l = omega (arith, length-follow end 0 (startOf d i) (up (startOf d i) (goalsOf d j) 0))
+  whole-length l = omega (arith, length-follow end 0 (startOf d i) (firstLabel d i j))
 
   pub whole-first : getD whole 0 0 ≡ startOf d i
   unfolding pathAt
@@ -48,8 +48,8 @@ module _ (d : Sheet) (i : Carrier) (j : Task) (cs : List Constraint) (end : ℕ)
     pub rest : drop (t + 1) whole ≡ follow d i j cs m (end - t) t u k
     pub time : OnTime d i j cs (end - t) t u k
 
-  pub traced-first : (before : List ℕ) → OnTime d i j cs end 0 (startOf d i) (up (startOf d i) (goalsOf d j) 0) → {u k : ℕ} → u ≡ startOf d i
-      → k ≡ up (startOf d i) (goalsOf d j) 0 → Traced before before u k 0
+  pub traced-first : (before : List ℕ) → OnTime d i j cs end 0 (startOf d i) (firstLabel d i j) → {u k : ℕ} → u ≡ startOf d i
+      → k ≡ firstLabel d i j → Traced before before u k 0
   unfolding pathAt
   traced-first before o {u} {k} e f =
       let z : end - 0 ≡ end = omega arith in
@@ -61,7 +61,7 @@ module _ (d : Sheet) (i : Carrier) (j : Task) (cs : List Constraint) (end : ℕ)
 
   -- the next place
   module _ (start : T (free d (startOf d i))) {before out : List ℕ} {u k t : ℕ} (tr : Traced before out u k t) (l : t < end) {v c : ℕ}
-      (ev : v ≡ firstOf (onward d i j cs (end - (t + 1)) t u k) (near d u)) (ec : c ≡ up v (goalsOf d j) k) where
+      (ev : v ≡ firstOf (onward d i j cs (end - (t + 1)) t u k) (near d u)) (ec : c ≡ raised d j u v k) where
     steps-left : end - t ≡ suc (end - (t + 1))
     steps-left = omega arith
 
@@ -72,7 +72,7 @@ module _ (d : Sheet) (i : Carrier) (j : Task) (cs : List Constraint) (end : ℕ)
     pub next-time : OnTime d i j cs (end - (t + 1)) (t + 1) v c
     next-time =
         let o : OnTime d i j cs (suc (end - (t + 1))) t u k = subst (λ (n : ℕ). OnTime d i j cs n t u k) steps-left (tr .time) in
-        rw (ec, ev) (subst (λ (y : ℕ). OnTime d i j cs (end - (t + 1)) y (firstOf (onward d i j cs (end - (t + 1)) t u k) (near d u)) (up (firstOf (onward d i j cs (end - (t + 1)) t u k) (near d u)) (goalsOf d j) k)) (sym (add-one t))
+        rw (ec, ev) (subst (λ (y : ℕ). OnTime d i j cs (end - (t + 1)) y (firstOf (onward d i j cs (end - (t + 1)) t u k) (near d u)) (raised d j u (firstOf (onward d i j cs (end - (t + 1)) t u k) (near d u)) k)) (sym (add-one t))
         (next-on-time d i j cs start (end - (t + 1)) t u k o))
 
     pub traced-next : (w : ℕ) → w ≡ v → t + 1 < length before → Traced before (set out (t + 1) w) v c (t + 1)

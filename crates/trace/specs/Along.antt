@@ -48,7 +48,7 @@ pub record Sees (mask rs heads work : List ℕ) (l : Look) : Type 0 where
   pub in-time : l .t < 256
   pub few : countIn rs ≤ 4096
   pub chained : Chained rs (l .i .0) heads work
-  pub label : l .k ≤ 8
+  pub label : l .k < 224
   pub width : 1 ≤ l .w
   pub narrow : l .w ≤ 32
   pub place : l .u < 1024

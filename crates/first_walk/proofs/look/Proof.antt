@@ -2,7 +2,7 @@
 use borrow.Author.Needs.{needs}
 use native.Mathlib.Omega.{arith}
 use mathlib.Core.Path.{refl}
-use Rattle.passes.proofs.Given.{horizon-most, few-goals, few-records}
+use Rattle.passes.proofs.Given.{horizon-most, few-goals, all-counted, few-records}
 use Rattle.first_walk.proofs.Looking.{place-small, time-small, width-small, padded-small, spot-of, spot-small, blocked-way, open-way, open-small, count-small, too-late, was-dead, barred-way, clear-way}
 use Rattle.first_walk.proofs.look.Statement.{statement}
 use Rattle.first_walk.proofs.look.Tie as tie
@@ -38,7 +38,7 @@ sub-v : tie.Need-sub-v
 sub-v c = (open-way (c .before .before .before .before .before .before .before .before .before .before .before .pre .0) (c .before .before .before .before .before .before .before .before .before .before .before .pre .1) (c .before .before .before .before .before .before .before .before .before .before .before .args .x) (c .before .before .before .before .before .before .before .before .before .before .before .pre .4) _ _ (c .before .turn2 .result) (spot-of (c .before .before .before .before .before .before .before .before .before .before .before .pre .0) (c .before .before .before .before .before .before .before .before .before .before .before .pre .1) (c .before .before .before .before .before .before .before .before .before .before .before .args .x) (c .before .before .before .before .before .turn .result) (c .before .before .before .before .before .turn .ensures .0)) refl (c .before .before .if1 .left) (c .before .turn2 .ensures .0)) .0
 
 visit-requires : tie.Need-visit-requires
-visit-requires c κs = (omega (arith, c .before .before .before .before .before .before .before .before .before .before .before .pre .0 .many, few-goals (c .before .before .before .before .before .before .before .before .before .before .before .pre .0 .ready)), omega (arith, c .before .before .before .before .before .before .before .before .before .before .before .pre .0 .many, c .before .before .before .before .before .before .before .before .before .before .before .pre .1 .label))
+visit-requires c κs = (omega (arith, c .before .before .before .before .before .before .before .before .before .before .before .pre .0 .many, few-goals (c .before .before .before .before .before .before .before .before .before .before .before .pre .0 .ready)), omega (arith, all-counted (c .before .before .before .before .before .before .before .before .before .before .before .pre .0 .ready) (c .before .before .before .before .before .before .before .before .before .before .before .pre .0 .many), c .before .before .before .before .before .before .before .before .before .before .before .pre .1 .label))
 
 add-if2 : tie.Need-add-if2
 add-if2 c = search needs

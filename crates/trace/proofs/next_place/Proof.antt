@@ -8,7 +8,7 @@ use Rattle.sheet.proofs.Accepted.{area-range}
 use Rattle.meaning.proofs.Paths.{free-meant}
 use Rattle.bars.specs.Bars.{countIn}
 use Rattle.passes.proofs.Backing.{code-rows, code-times}
-use Rattle.passes.proofs.Given.{wide-one, wide-most, few-records}
+use Rattle.passes.proofs.Given.{wide-one, wide-most, all-counted, few-records}
 use Rattle.trace.proofs.Seeing.{Seen, seen-at, way-enough, way-first, way-none}
 use Rattle.trace.proofs.next_place.Statement.{statement}
 use Rattle.trace.proofs.next_place.Tie as tie
@@ -35,7 +35,7 @@ seen c =
     let s = c .before .before .before .before .before .before .before in
     seen-at (s .args .s .now) (s .args .i) (s .args .j) (s .args .mask .now) (s .args .records .now) (s .pre .0) (s .args .heads .now) (s .args .work .now) (s .args .end) (s .args .t) (s .args .u) (s .args .k) (s .pre .1) (s .pre .2) (s .pre .3) (s .pre .4) (wide (c .before .before .before))
     (ap₂ (λ (w h : ℕ). countIn (s .args .records .now) + (s .args .t + 1) * (((w + 2) * h + 3) / 4)) (wide (c .before .before .before)) (c .before .before .height .ensures .0))
-    (c .pad .ensures) (c .before .goal-count .ensures .0)
+    (c .pad .ensures) (all-counted (s .pre .0) (c .before .goal-count .ensures .0))
 
 width-requires : tie.Need-width-requires
 width-requires c κs = search needs

@@ -4,16 +4,16 @@ use native.Mathlib.Omega.{arith}
 use mathlib.Core.Path.{refl, _∙_, ap}
 use Prim.Native.Nat.{_-_, _≤_}
 use lib.ListN.{length-set}
-use Rattle.deck.specs.Sheet.{read, goalsOf, startOf}
+use Rattle.deck.specs.Sheet.{read}
 use Rattle.deck.specs.Calls.{constraintsOf}
 use Rattle.kernel.proofs.Follow.{first-on-time}
 use Rattle.passes.proofs.Passing.{forth-at}
-use Rattle.passes.proofs.Given.{wide-one, wide-most, few-goals, horizon-most, begins-free, ends-free, in-time}
+use Rattle.passes.proofs.Given.{wide-one, wide-most, few-goals, all-counted, horizon-most, begins-free, ends-free, in-time}
 use Rattle.sheet.proofs.Accepted.{area-range}
 use Rattle.meaning.proofs.Paths.{free-meant}
 use Rattle.bars.specs.Padded.{padOf}
 use Rattle.trace.proofs.Writing.{Traced, traced-first, traced-next, next-time, all-written}
-use Rattle.trace.proofs.Looking.{visited-up}
+use Rattle.trace.proofs.Looking.{visited-first, visited-raised}
 use Rattle.trace.proofs.trace.Statement.{statement}
 use Rattle.trace.proofs.trace.Tie as tie
 
@@ -51,7 +51,7 @@ slice-write-out : tie.Need-slice-write-out Inv-loop μ-loop
 slice-write-out c = omega (arith, c .before .before .before .before .before .before .before .before .before .before .before .before .pre .5)
 
 loop-holds : tie.Need-loop-holds Inv-loop μ-loop
-loop-holds c = (omega arith, traced-first (read (c .before .before .before .before .before .before .before .before .before .before .before .before .args .s .now)) (c .before .before .before .before .before .before .before .before .before .before .before .before .args .i) (c .before .before .before .before .before .before .before .before .before .before .before .before .args .j) (constraintsOf (c .before .before .before .before .before .before .before .before .before .before .before .before .args .records .now)) (c .before .before .before .before .before .before .before .before .before .before .before .before .args .end) _ (first-on-time (read (c .before .before .before .before .before .before .before .before .before .before .before .before .args .s .now)) (c .before .before .before .before .before .before .before .before .before .before .before .before .args .i) (c .before .before .before .before .before .before .before .before .before .before .before .before .args .j) (constraintsOf (c .before .before .before .before .before .before .before .before .before .before .before .before .args .records .now)) (begins-free (c .before .before .before .before .before .before .before .before .before .before .before .before .pre .0)) (ends-free (c .before .before .before .before .before .before .before .before .before .before .before .before .pre .0)) (in-time (c .before .before .before .before .before .before .before .before .before .before .before .before .pre .0)) (c .before .before .before .before .before .before .before .before .before .before .before .before .args .end) (c .before .before .before .before .before .before .before .before .before .before .before .before .pre .4) (c .before .before .before .before .before .before .before .before .before .before .before .before .pre .3)) (c .before .before .before .start .ensures .0) (visited-up _ (omega (arith, (c .before .before .before .before .before .before .before .width .ensures .0), wide-one (c .before .before .before .before .before .before .before .before .before .before .before .before .pre .0))) (goalsOf (read (c .before .before .before .before .before .before .before .before .before .before .before .before .args .s .now)) (c .before .before .before .before .before .before .before .before .before .before .before .before .args .j)) (c .before .before .before .before .before .before .before .before .before .before .before .before .args .goals .now) _ (startOf (read (c .before .before .before .before .before .before .before .before .before .before .before .before .args .s .now)) (c .before .before .before .before .before .before .before .before .before .before .before .before .args .i)) _ 0 _ (forth-at (c .before .before .before .before .before .before .before .before .before .before .before .before .args .s .now) (c .before .before .before .before .before .before .before .before .before .before .before .before .args .i) (c .before .before .before .before .before .before .before .before .before .before .before .before .args .j) (c .before .before .before .before .before .before .before .before .before .before .before .before .args .mask .now) (c .before .before .before .before .before .before .before .before .before .before .before .before .args .records .now) (c .before .before .before .before .before .before .before .before .before .before .before .before .pre .0) _ _ (c .before .before .before .before .before .before .before .width .ensures .0) (c .before .before .before .before .before .goal-count .ensures .0) (c .before .before .before .before .before .before .before .before .before .before .before .before .args .goals .now) (c .before .before .before .before .before .before .before .before .before .before .before .before .pre .1)) (c .before .before .pad .ensures ∙ ap (padOf _) (c .before .before .before .start .ensures .0)) (c .before .visit .ensures)))
+loop-holds c = (omega arith, traced-first (read (c .before .before .before .before .before .before .before .before .before .before .before .before .args .s .now)) (c .before .before .before .before .before .before .before .before .before .before .before .before .args .i) (c .before .before .before .before .before .before .before .before .before .before .before .before .args .j) (constraintsOf (c .before .before .before .before .before .before .before .before .before .before .before .before .args .records .now)) (c .before .before .before .before .before .before .before .before .before .before .before .before .args .end) _ (first-on-time (read (c .before .before .before .before .before .before .before .before .before .before .before .before .args .s .now)) (c .before .before .before .before .before .before .before .before .before .before .before .before .args .i) (c .before .before .before .before .before .before .before .before .before .before .before .before .args .j) (constraintsOf (c .before .before .before .before .before .before .before .before .before .before .before .before .args .records .now)) (begins-free (c .before .before .before .before .before .before .before .before .before .before .before .before .pre .0)) (ends-free (c .before .before .before .before .before .before .before .before .before .before .before .before .pre .0)) (in-time (c .before .before .before .before .before .before .before .before .before .before .before .before .pre .0)) (c .before .before .before .before .before .before .before .before .before .before .before .before .args .end) (c .before .before .before .before .before .before .before .before .before .before .before .before .pre .4) (c .before .before .before .before .before .before .before .before .before .before .before .before .pre .3)) (c .before .before .before .start .ensures .0) (visited-first (read (c .before .before .before .before .before .before .before .before .before .before .before .before .args .s .now)) (c .before .before .before .before .before .before .before .before .before .before .before .before .args .j) _ (omega (arith, (c .before .before .before .before .before .before .before .width .ensures .0), wide-one (c .before .before .before .before .before .before .before .before .before .before .before .before .pre .0))) (c .before .before .before .before .before .before .before .before .before .before .before .before .args .goals .now) _ (forth-at (c .before .before .before .before .before .before .before .before .before .before .before .before .args .s .now) (c .before .before .before .before .before .before .before .before .before .before .before .before .args .i) (c .before .before .before .before .before .before .before .before .before .before .before .before .args .j) (c .before .before .before .before .before .before .before .before .before .before .before .before .args .mask .now) (c .before .before .before .before .before .before .before .before .before .before .before .before .args .records .now) (c .before .before .before .before .before .before .before .before .before .before .before .before .pre .0) _ _ (c .before .before .before .before .before .before .before .width .ensures .0) (c .before .before .before .before .before .goal-count .ensures .0) (c .before .before .before .before .before .before .before .before .before .before .before .before .args .goals .now) (c .before .before .before .before .before .before .before .before .before .before .before .before .pre .1)) (c .before .before .before .before .before .before .before .before .before .before .before .before .args .i) _ _ (c .before .before .pad .ensures ∙ ap (padOf _) (c .before .before .before .start .ensures .0)) (c .before .visit .ensures)))
 
 next-place-requires : tie.Need-next-place-requires Inv-loop μ-loop
 next-place-requires c κs = (c .before .before .before .before .before .before .before .before .before .before .before .before .before .before .pre .0, c .before .before .before .before .before .before .before .before .before .before .before .before .before .before .pre .2, c .loop-test .taken, c .before .before .before .before .before .before .before .before .before .before .before .before .before .before .pre .3, c .before .loop .inv .1 .time)
@@ -60,7 +60,7 @@ pad-requires-2 : tie.Need-pad-requires-2 Inv-loop μ-loop
 pad-requires-2 c κs = let o = (next-time (read (c .before .before .before .before .before .before .before .before .before .before .before .before .before .before .before .args .s .now)) (c .before .before .before .before .before .before .before .before .before .before .before .before .before .before .before .args .i) (c .before .before .before .before .before .before .before .before .before .before .before .before .before .before .before .args .j) (constraintsOf (c .before .before .before .before .before .before .before .before .before .before .before .before .before .before .before .args .records .now)) (c .before .before .before .before .before .before .before .before .before .before .before .before .before .before .before .args .end) (begins-free (c .before .before .before .before .before .before .before .before .before .before .before .before .before .before .before .pre .0)) (c .before .before .loop .inv .1) (c .before .loop-test .taken) (c .next-place .ensures) refl) in (omega (arith, (c .before .before .before .before .before .before .before .before .before .before .width .ensures .0), wide-one (c .before .before .before .before .before .before .before .before .before .before .before .before .before .before .before .pre .0)), omega (arith, (c .before .before .before .before .before .before .before .before .before .before .width .ensures .0), wide-most (c .before .before .before .before .before .before .before .before .before .before .before .before .before .before .before .pre .0)), omega (arith, free-meant (read (c .before .before .before .before .before .before .before .before .before .before .before .before .before .before .before .args .s .now)) _ .fact (o .on-free) .on-grid, area-range (c .before .before .before .before .before .before .before .before .before .before .before .before .before .before .before .args .s .now) (c .before .before .before .before .before .before .before .before .before .before .before .before .before .before .before .pre .0 .accepted) .1))
 
 visit-requires-2 : tie.Need-visit-requires-2 Inv-loop μ-loop
-visit-requires-2 c κs = (omega (arith, (c .before .before .before .before .before .before .before .before .before .goal-count .ensures .0), few-goals (c .before .before .before .before .before .before .before .before .before .before .before .before .before .before .before .before .pre .0)), omega (arith, (c .before .before .before .before .before .before .before .before .before .goal-count .ensures .0), c .before .before .before .loop .inv .1 .time .label))
+visit-requires-2 c κs = (omega (arith, (c .before .before .before .before .before .before .before .before .before .goal-count .ensures .0), few-goals (c .before .before .before .before .before .before .before .before .before .before .before .before .before .before .before .before .pre .0)), omega (arith, all-counted (c .before .before .before .before .before .before .before .before .before .before .before .before .before .before .before .before .pre .0) (c .before .before .before .before .before .before .before .before .before .goal-count .ensures .0), c .before .before .before .loop .inv .1 .time .label))
 
 narrow-requires-2 : tie.Need-narrow-requires-2 Inv-loop μ-loop
 narrow-requires-2 c κs = let o = (next-time (read (c .before .before .before .before .before .before .before .before .before .before .before .before .before .before .before .before .before .args .s .now)) (c .before .before .before .before .before .before .before .before .before .before .before .before .before .before .before .before .before .args .i) (c .before .before .before .before .before .before .before .before .before .before .before .before .before .before .before .before .before .args .j) (constraintsOf (c .before .before .before .before .before .before .before .before .before .before .before .before .before .before .before .before .before .args .records .now)) (c .before .before .before .before .before .before .before .before .before .before .before .before .before .before .before .before .before .args .end) (begins-free (c .before .before .before .before .before .before .before .before .before .before .before .before .before .before .before .before .before .pre .0)) (c .before .before .before .before .loop .inv .1) (c .before .before .before .loop-test .taken) (c .before .before .next-place .ensures) refl) in omega (arith, free-meant (read (c .before .before .before .before .before .before .before .before .before .before .before .before .before .before .before .before .before .args .s .now)) _ .fact (o .on-free) .on-grid, area-range (c .before .before .before .before .before .before .before .before .before .before .before .before .before .before .before .before .before .args .s .now) (c .before .before .before .before .before .before .before .before .before .before .before .before .before .before .before .before .before .pre .0 .accepted) .1)
@@ -81,7 +81,7 @@ loop-less : tie.Need-loop-less Inv-loop μ-loop
 loop-less c = omega arith
 
 loop-again : tie.Need-loop-again Inv-loop μ-loop
-loop-again c = (omega arith, traced-next (read (c .before .before .before .before .before .before .before .before .before .before .before .before .before .before .before .before .before .before .args .s .now)) (c .before .before .before .before .before .before .before .before .before .before .before .before .before .before .before .before .before .before .args .i) (c .before .before .before .before .before .before .before .before .before .before .before .before .before .before .before .before .before .before .args .j) (constraintsOf (c .before .before .before .before .before .before .before .before .before .before .before .before .before .before .before .before .before .before .args .records .now)) (c .before .before .before .before .before .before .before .before .before .before .before .before .before .before .before .before .before .before .args .end) (begins-free (c .before .before .before .before .before .before .before .before .before .before .before .before .before .before .before .before .before .before .pre .0)) (c .before .before .before .before .before .loop .inv .1) (c .before .before .before .before .loop-test .taken) (c .before .before .before .next-place .ensures) (visited-up _ (omega (arith, (c .before .before .before .before .before .before .before .before .before .before .before .before .before .width .ensures .0), wide-one (c .before .before .before .before .before .before .before .before .before .before .before .before .before .before .before .before .before .before .pre .0))) (goalsOf (read (c .before .before .before .before .before .before .before .before .before .before .before .before .before .before .before .before .before .before .args .s .now)) (c .before .before .before .before .before .before .before .before .before .before .before .before .before .before .before .before .before .before .args .j)) (c .before .before .before .before .before .before .before .before .before .before .before .before .before .before .before .before .before .before .args .goals .now) _ _ _ (c .before .before .before .before .before .loop .k) _ (forth-at (c .before .before .before .before .before .before .before .before .before .before .before .before .before .before .before .before .before .before .args .s .now) (c .before .before .before .before .before .before .before .before .before .before .before .before .before .before .before .before .before .before .args .i) (c .before .before .before .before .before .before .before .before .before .before .before .before .before .before .before .before .before .before .args .j) (c .before .before .before .before .before .before .before .before .before .before .before .before .before .before .before .before .before .before .args .mask .now) (c .before .before .before .before .before .before .before .before .before .before .before .before .before .before .before .before .before .before .args .records .now) (c .before .before .before .before .before .before .before .before .before .before .before .before .before .before .before .before .before .before .pre .0) _ _ (c .before .before .before .before .before .before .before .before .before .before .before .before .before .width .ensures .0) (c .before .before .before .before .before .before .before .before .before .before .before .goal-count .ensures .0) (c .before .before .before .before .before .before .before .before .before .before .before .before .before .before .before .before .before .before .args .goals .now) (c .before .before .before .before .before .before .before .before .before .before .before .before .before .before .before .before .before .before .pre .1)) (c .before .before .pad2 .ensures) (c .before .visit2 .ensures)) _ (c .narrow2 .ensures) (omega (arith, length-set (c .before .before .before .before .before .before .before .before .before .before .before .before .before .before .before .before .before .before .args .out .now) 0 (c .before .before .before .before .before .before .narrow .result), c .before .before .before .before .before .before .before .before .before .before .before .before .before .before .before .before .before .before .pre .5, c .before .before .before .before .before .before .before .before .before .before .before .before .before .before .before .before .before .before .pre .3, c .before .before .before .before .loop-test .taken)))
+loop-again c = (omega arith, traced-next (read (c .before .before .before .before .before .before .before .before .before .before .before .before .before .before .before .before .before .before .args .s .now)) (c .before .before .before .before .before .before .before .before .before .before .before .before .before .before .before .before .before .before .args .i) (c .before .before .before .before .before .before .before .before .before .before .before .before .before .before .before .before .before .before .args .j) (constraintsOf (c .before .before .before .before .before .before .before .before .before .before .before .before .before .before .before .before .before .before .args .records .now)) (c .before .before .before .before .before .before .before .before .before .before .before .before .before .before .before .before .before .before .args .end) (begins-free (c .before .before .before .before .before .before .before .before .before .before .before .before .before .before .before .before .before .before .pre .0)) (c .before .before .before .before .before .loop .inv .1) (c .before .before .before .before .loop-test .taken) (c .before .before .before .next-place .ensures) (visited-raised (read (c .before .before .before .before .before .before .before .before .before .before .before .before .before .before .before .before .before .before .args .s .now)) (c .before .before .before .before .before .before .before .before .before .before .before .before .before .before .before .before .before .before .args .j) _ (omega (arith, (c .before .before .before .before .before .before .before .before .before .before .before .before .before .width .ensures .0), wide-one (c .before .before .before .before .before .before .before .before .before .before .before .before .before .before .before .before .before .before .pre .0))) (c .before .before .before .before .before .before .before .before .before .before .before .before .before .before .before .before .before .before .args .goals .now) _ (forth-at (c .before .before .before .before .before .before .before .before .before .before .before .before .before .before .before .before .before .before .args .s .now) (c .before .before .before .before .before .before .before .before .before .before .before .before .before .before .before .before .before .before .args .i) (c .before .before .before .before .before .before .before .before .before .before .before .before .before .before .before .before .before .before .args .j) (c .before .before .before .before .before .before .before .before .before .before .before .before .before .before .before .before .before .before .args .mask .now) (c .before .before .before .before .before .before .before .before .before .before .before .before .before .before .before .before .before .before .args .records .now) (c .before .before .before .before .before .before .before .before .before .before .before .before .before .before .before .before .before .before .pre .0) _ _ (c .before .before .before .before .before .before .before .before .before .before .before .before .before .width .ensures .0) (c .before .before .before .before .before .before .before .before .before .before .before .goal-count .ensures .0) (c .before .before .before .before .before .before .before .before .before .before .before .before .before .before .before .before .before .before .args .goals .now) (c .before .before .before .before .before .before .before .before .before .before .before .before .before .before .before .before .before .before .pre .1)) _ _ _ (c .before .before .before .before .before .loop .k) _ (c .before .before .pad2 .ensures) (c .before .visit2 .ensures)) _ (c .narrow2 .ensures) (omega (arith, length-set (c .before .before .before .before .before .before .before .before .before .before .before .before .before .before .before .before .before .before .args .out .now) 0 (c .before .before .before .before .before .before .narrow .result), c .before .before .before .before .before .before .before .before .before .before .before .before .before .before .before .before .before .before .pre .5, c .before .before .before .before .before .before .before .before .before .before .before .before .before .before .before .before .before .before .pre .3, c .before .before .before .before .loop-test .taken)))
 
 add-stay : tie.Need-add-stay Inv-loop μ-loop
 add-stay c = omega (arith, c .before .before .before .before .before .before .before .before .before .before .before .before .before .before .before .pre .3, horizon-most (c .before .before .before .before .before .before .before .before .before .before .before .before .before .before .before .pre .0))
