@@ -17,7 +17,7 @@ use Rattle.kernel.specs.Layers.{firstOf}
 use Rattle.kernel.specs.Near.{consIf, near}
 use Rattle.kernel.specs.Parts.{stepFree}
 use Rattle.kernel.proofs.Both.{and-left, and-both}
-use Rattle.kernel.proofs.Near.{wide-of, left-row, right-row, right-inside, above-beside, left-beside, right-beside, below-beside, in-first, in-rest, cases-if}
+use Rattle.kernel.proofs.Near.{wide-of, left-row, right-row, right-inside, above-next, left-next, right-next, below-next, in-first, in-rest, cases-if}
 use Rattle.kernel.proofs.OfSheet.{step-free-meant, step-around}
 use Rattle.bars.specs.Padded.{padOf, Border, Holds, shade, MaskOf, Gate}
 use Rattle.bars.specs.Bars.{wayOf}
@@ -137,11 +137,11 @@ module _ (d : Sheet) (u : ℕ) (on : u < area d) where
       next-to x v e b = inr (subst (λ (y : ℕ). Beside d u y) (sym e) b)
 
       go : (x : ℕ) → x < 5 → T (hasBy d u x) → (u ≡ placeBy d u x) ⊎ Beside d u (placeBy d u x)
-      go zero l t = next-to 0 (u - d .width) (omega arith) (above-beside d u on t)
-      go (suc zero) l t = next-to 1 (u - 1) (omega (arith, z, mod-le u (d .width), ltb→lt 0 (u % d .width) t)) (left-beside d u on t)
+      go zero l t = next-to 0 (u - d .width) (omega arith) (above-next d u on t)
+      go (suc zero) l t = next-to 1 (u - 1) (omega (arith, z, mod-le u (d .width), ltb→lt 0 (u % d .width) t)) (left-next d u on t)
       go (suc (suc zero)) l t = inl (omega arith)
-      go (suc (suc (suc zero))) l t = next-to 3 (u + 1) (omega arith) (right-beside d u t)
-      go (suc (suc (suc (suc zero)))) l t = next-to 4 (u + d .width) (omega arith) (below-beside d u on)
+      go (suc (suc (suc zero))) l t = next-to 3 (u + 1) (omega arith) (right-next d u t)
+      go (suc (suc (suc (suc zero)))) l t = next-to 4 (u + d .width) (omega arith) (below-next d u on)
       go (suc (suc (suc (suc (suc x))))) l t = absurd (omega arith)
 
   -- a step by the way x: the place may be left that way, and both places are free

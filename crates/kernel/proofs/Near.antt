@@ -71,13 +71,13 @@ one-apart-turned a b (inr e) = inl e
 
 module _ (d : Sheet) where
   -- the same seen from either place: a law of `NextTo`, not of `Beside`, which a step asks for
-  pub beside-turned : (u v : ℕ) → NextTo (d .width) u v → NextTo (d .width) v u
-  beside-turned u v (inl (a, b)) = inl (sym a, one-apart-turned (u % d .width) (v % d .width) b)
-  beside-turned u v (inr (a, b)) = inr (sym a, one-apart-turned (u / d .width) (v / d .width) b)
+  pub next-turned : (u v : ℕ) → NextTo (d .width) u v → NextTo (d .width) v u
+  next-turned u v (inl (a, b)) = inl (sym a, one-apart-turned (u % d .width) (v % d .width) b)
+  next-turned u v (inr (a, b)) = inr (sym a, one-apart-turned (u / d .width) (v / d .width) b)
 
   -- the places next to a place are among those around it
-  pub beside-near : (u v : ℕ) → u < area d → v < area d → NextTo (d .width) u v → Mem v (near d u)
-  beside-near u v a b h = go h
+  pub next-near : (u v : ℕ) → u < area d → v < area d → NextTo (d .width) u v → Mem v (near d u)
+  next-near u v a b h = go h
     where
       z : 0 < d .width
       z = wide-of (d .width) (d .height) u a
@@ -120,21 +120,21 @@ module _ (d : Sheet) where
       (in-rest (hasLeft d u) (u - 1) (u ∷ consIf (hasRight d u) (u + 1) (consIf (hasBelow d u) (u + d .width) [])) (here refl))
 
   -- each place around is the place itself or one next to it, and on the grid
-  pub above-beside : (u : ℕ) → u < area d → T (hasAbove d u) → NextTo (d .width) u (u - d .width)
-  above-beside u a t =
+  pub above-next : (u : ℕ) → u < area d → T (hasAbove d u) → NextTo (d .width) u (u - d .width)
+  above-next u a t =
       let e : u ≡ (u - d .width) + d .width = omega (arith, leb→le (d .width) u t) in
       let r = below-row (d .width) (u - d .width) (wide-of (d .width) (d .height) u a) in
       inr (ap (λ (x : ℕ). x % d .width) e ∙ r .1, inr (sym (ap (λ (x : ℕ). x / d .width) e ∙ r .0)))
 
-  pub left-beside : (u : ℕ) → u < area d → T (hasLeft d u) → NextTo (d .width) u (u - 1)
-  left-beside u a t =
+  pub left-next : (u : ℕ) → u < area d → T (hasLeft d u) → NextTo (d .width) u (u - 1)
+  left-next u a t =
       let z : 0 < d .width = wide-of (d .width) (d .height) u a in
       let h : 0 < u % d .width = ltb→lt 0 (u % d .width) t in
       let r = left-row (d .width) u z h in
       inl (sym (r .0), inr (omega (arith, r .1)))
 
-  pub right-beside : (u : ℕ) → T (hasRight d u) → NextTo (d .width) u (u + 1)
-  right-beside u t = let r = right-row (d .width) u (ltb→lt (suc (u % d .width)) (d .width) t) in inl (sym (r .0), inl (sym (r .1)))
+  pub right-next : (u : ℕ) → T (hasRight d u) → NextTo (d .width) u (u + 1)
+  right-next u t = let r = right-row (d .width) u (ltb→lt (suc (u % d .width)) (d .width) t) in inl (sym (r .0), inl (sym (r .1)))
 
   -- the place to the right is in the same row, so on the grid
   pub right-inside : (u : ℕ) → u < area d → T (hasRight d u) → u + 1 < area d
@@ -145,8 +145,8 @@ module _ (d : Sheet) where
       let m = mul-le-mul-right (d .width) r in
       omega (arith, m, suc-mul (u / d .width) (d .width), div-add-mod' u (d .width), mul-comm (d .height) (d .width))
 
-  pub below-beside : (u : ℕ) → u < area d → NextTo (d .width) u (u + d .width)
-  below-beside u a = let r = below-row (d .width) u (wide-of (d .width) (d .height) u a) in inr (sym (r .1), inl (sym (r .0)))
+  pub below-next : (u : ℕ) → u < area d → NextTo (d .width) u (u + d .width)
+  below-next u a = let r = below-row (d .width) u (wide-of (d .width) (d .height) u a) in inr (sym (r .1), inl (sym (r .0)))
 
   pub near-rising : 0 < d .width → (u : ℕ) → Sorted _<_ (near d u)
   near-rising z u =

@@ -21,7 +21,7 @@ use Rattle.records.specs.Cut.{part, put}
 use Rattle.records.specs.Record.{fieldsAt, linkIn, ownIn, finishesIn, packedIn, keyAt, closedKey, withKey, Wrote}
 use Rattle.records.proofs.Cuts.{part-here, part-behind, part-before}
 use Rattle.records.proofs.Frames.{key-same, key-other, key-record}
-use Rattle.nodes.specs.Nodes.{upward, constraintsAt, pathOf, costOf, nodeOf, nodeAt, isOpen, openNumbers, openedAt}
+use Rattle.nodes.specs.Nodes.{upward, constraintsAt, storedPath, costOf, nodeOf, nodeAt, isOpen, openNumbers, openedAt}
 use Rattle.nodes.specs.Stored.{Fits, Sound, Stored, Added}
 use Rattle.nodes.proofs.Tables.{map-select-same, map-append, count-snoc, select-append, select-same}
 use Rattle.nodes.proofs.Grid.{read-back}
@@ -128,8 +128,8 @@ module _ {ps fs : List (List ℕ)} {i t : ℕ} {packed : List ℕ} (e : PathSet 
 
   -- the places of the paths
   module _ (d : Sheet) where
-    pub path-other : (k : ℕ) → (k ≡ i → ⊥) → pathOf d fs k ≡ pathOf d ps k
+    pub path-other : (k : ℕ) → (k ≡ i → ⊥) → storedPath d fs k ≡ storedPath d ps k
     path-other k n = rw (packed-other k n)
 
-    pub path-here : (p : List ℕ) → Fits d → i < d .count → Mem p (walks d (d .horizon) (startOf d (carrier i))) → packed ≡ packOf (d .width) (d .horizon) p → pathOf d fs i ≡ p
+    pub path-here : (p : List ℕ) → Fits d → i < d .count → Mem p (walks d (d .horizon) (startOf d (carrier i))) → packed ≡ packOf (d .width) (d .horizon) p → storedPath d fs i ≡ p
     path-here p f g w z = rw (packed-here, z) (read-back d f i g p w)

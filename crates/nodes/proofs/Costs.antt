@@ -14,17 +14,17 @@ use Rattle.meaning.proofs.Lists.{getD-tabulate}
 use Rattle.meaning.proofs.Finish.{finish-most}
 use Rattle.pack.proofs.Trips.{length-unpack}
 use Rattle.records.specs.Record.{tasksIn, finishesIn, packedIn}
-use Rattle.nodes.specs.Nodes.{pathOf, pathsOf, costOf}
+use Rattle.nodes.specs.Nodes.{storedPath, storedPaths, costOf}
 use Rattle.nodes.specs.Stored.{Fits, Sound}
 use Rattle.nodes.proofs.Tables.{map-same, sum-most, sum-table}
 
 module _ (d : Sheet) (fs : List (List ℕ)) where
   -- the finish of carrier i
   abbrev pub finishIn : ℕ → ℕ
-  finishIn i = finishOf d (task (getD (tasksIn fs) i 0)) (pathOf d fs i)
+  finishIn i = finishOf d (task (getD (tasksIn fs) i 0)) (storedPath d fs i)
 
-  pub path-at : (i : ℕ) → i < d .count → getD (pathsOf d fs) i [] ≡ pathOf d fs i
-  path-at i h = getD-tabulate (pathOf d fs) 0 (d .count) i [] h ∙ ap (pathOf d fs) (zero-add i)
+  pub path-at : (i : ℕ) → i < d .count → getD (storedPaths d fs) i [] ≡ storedPath d fs i
+  path-at i h = getD-tabulate (storedPath d fs) 0 (d .count) i [] h ∙ ap (storedPath d fs) (zero-add i)
 
   pub cost-is : costOf d fs ≡ sum (map finishIn (below (d .count)))
   unfolding costOf problem
@@ -35,8 +35,8 @@ module _ (d : Sheet) (fs : List (List ℕ)) where
     where
       most : (i : ℕ) → finishIn i ≤ 256
       most i =
-          let l : length (pathOf d fs i) ≡ d .horizon + 1 = length-unpack (d .width) (d .horizon) (packedIn fs i) (getD (d .starts) i 0) in
-          let h : finishIn i ≤ length (pathOf d fs i) = finish-most d (task (getD (tasksIn fs) i 0)) (pathOf d fs i) in
+          let l : length (storedPath d fs i) ≡ d .horizon + 1 = length-unpack (d .width) (d .horizon) (packedIn fs i) (getD (d .starts) i 0) in
+          let h : finishIn i ≤ length (storedPath d fs i) = finish-most d (task (getD (tasksIn fs) i 0)) (storedPath d fs i) in
           omega (arith, f .horizon)
 
   -- the finishes that are stored

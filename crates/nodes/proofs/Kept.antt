@@ -11,7 +11,7 @@ use Rattle.deck.specs.Planner.{problem}
 use Rattle.deck.specs.declared.Constraint.{Constraint}
 use Rattle.records.specs.Record.{fields, fieldsAt, rootIn, constraintIn, withSlot, keyAt, closedKey, withKey, Wrote}
 use Rattle.records.proofs.Frames.{key-same, key-other, key-record, fields-front, key-front}
-use Rattle.nodes.specs.Nodes.{constraintsAt, pathOf, pathsOf, assignmentOf, costOf, nodeOf, nodeAt, isOpen, openedAt}
+use Rattle.nodes.specs.Nodes.{constraintsAt, storedPath, storedPaths, assignmentOf, costOf, nodeOf, nodeAt, isOpen, openedAt}
 use Rattle.nodes.specs.Stored.{Sound, Stored, NodeAlike}
 use Rattle.nodes.proofs.Tables.{map-same, map-select-same, select-same}
 use Rattle.nodes.proofs.Chains.{stored-links, chain-alike, node-same}
@@ -53,11 +53,11 @@ pub alike-same : (fs gs : List (List ℕ)) → fs ≡ gs → NodeAlike fs gs
 alike-same fs gs e = rw e (record { link = refl; own = refl; tasks = refl; finishes = refl; paths = refl })
 
 module _ (d : Sheet) (fs gs : List (List ℕ)) (a : NodeAlike fs gs) where
-  alike-path : (i : ℕ) → pathOf d fs i ≡ pathOf d gs i
+  alike-path : (i : ℕ) → storedPath d fs i ≡ storedPath d gs i
   alike-path i = rw (a .paths)
 
-  alike-paths : pathsOf d fs ≡ pathsOf d gs
-  alike-paths = map-same (pathOf d fs) (pathOf d gs) 0 (d .count) (λ i x y. alike-path i)
+  alike-paths : storedPaths d fs ≡ storedPaths d gs
+  alike-paths = map-same (storedPath d fs) (storedPath d gs) 0 (d .count) (λ i x y. alike-path i)
 
   alike-cost : costOf d fs ≡ costOf d gs
   unfolding costOf
@@ -65,7 +65,7 @@ module _ (d : Sheet) (fs gs : List (List ℕ)) (a : NodeAlike fs gs) where
 
   alike-node : (cs ks : List Constraint) → cs ≡ ks → nodeOf d fs cs ≡ nodeOf d gs ks
   unfolding nodeOf costOf
-  alike-node cs ks e = node-is d fs cs (rootIn gs) (assignmentOf d gs) ks (pathsOf d gs) (rw (a .link)) (ap (take (d .count)) (a .tasks)) e alike-paths
+  alike-node cs ks e = node-is d fs cs (rootIn gs) (assignmentOf d gs) ks (storedPaths d gs) (rw (a .link)) (ap (take (d .count)) (a .tasks)) e alike-paths
 
   alike-sound : (k : ℕ) → Sound d k gs → Sound d k fs
   alike-sound k s =

@@ -25,7 +25,7 @@ use Rattle.pack.proofs.Trips.{length-pack}
 use Rattle.records.specs.Record.{fields, fieldsAt, linkIn, rootIn, ownIn, tasksIn, finishesIn, wordsOf, Small, withPath, childFields, withKey, Wrote}
 use Rattle.records.proofs.Frames.{length-field, wrote-then}
 use Rattle.records.proofs.Words.{held-again}
-use Rattle.nodes.specs.Nodes.{upward, constraintsAt, pathOf, pathsOf, assignmentOf, costOf, nodeOf, nodeAt}
+use Rattle.nodes.specs.Nodes.{upward, constraintsAt, storedPath, storedPaths, assignmentOf, costOf, nodeOf, nodeAt}
 use Rattle.meaning.proofs.Constraints.{bound-below}
 use Rattle.nodes.specs.Stored.{Fits, Sound, Stored, Added, ChildOf, RootSoFar}
 use Rattle.nodes.proofs.Tables.{map-same, map-set}
@@ -33,7 +33,7 @@ use Rattle.nodes.proofs.Grid.{least-walk}
 use Rattle.nodes.proofs.Adds.{added, PathSet, finish-here, finish-other, finishes-long, path-other, path-here}
 
 -- a node by its parts
-pub node-is : (d : Sheet) (fs : List (List ℕ)) (cs : List Constraint) (r : Bool) (a : List ℕ) (ks : List Constraint) (ps : List (List ℕ)) → rootIn fs ≡ r → assignmentOf d fs ≡ a → cs ≡ ks → pathsOf d fs ≡ ps
+pub node-is : (d : Sheet) (fs : List (List ℕ)) (cs : List Constraint) (r : Bool) (a : List ℕ) (ks : List Constraint) (ps : List (List ℕ)) → rootIn fs ≡ r → assignmentOf d fs ≡ a → cs ≡ ks → storedPaths d fs ≡ ps
     → nodeOf d fs cs ≡ record { root = r; tasks = a; constraints = ks; paths = ps; cost = flowtime (problem d) a ps }
 unfolding nodeOf costOf
 node-is d fs cs r a ks ps e f g h = rw (e, f, g, h)
@@ -101,10 +101,10 @@ module _ (d : Sheet) (limit : ℕ) (work : List ℕ) (made n i : ℕ) (c : Const
   old : Sound d n parent
   old = g .stored .sound n b
 
-  here : pathOf d kid i ≡ p
+  here : storedPath d kid i ≡ p
   here = path-here ways few long3 long7 (length-pack (d .width) (d .horizon) p) d p (g .fits) inside (g .walk) refl
 
-  other : (k : ℕ) → (k ≡ i → ⊥) → pathOf d kid k ≡ pathOf d parent k
+  other : (k : ℕ) → (k ≡ i → ⊥) → storedPath d kid k ≡ storedPath d parent k
   other k ne = path-other ways few long3 long7 (length-pack (d .width) (d .horizon) p) d k ne
 
   tasks : tasksIn kid ≡ tasksIn parent
@@ -123,27 +123,27 @@ module _ (d : Sheet) (limit : ℕ) (work : List ℕ) (made n i : ℕ) (c : Const
         paths = λ k x. walk k x (ℕ-discrete k i);
       }
     where
-      finishes : (k : ℕ) → k < d .count → Dec (k ≡ i) → getD (finishesIn kid) k 0 ≡ finishOf d (task (getD (tasksIn parent) k 0)) (pathOf d kid k)
+      finishes : (k : ℕ) → k < d .count → Dec (k ≡ i) → getD (finishesIn kid) k 0 ≡ finishOf d (task (getD (tasksIn parent) k 0)) (storedPath d kid k)
       finishes k x (yes z) = rw (z, here) (finish-here ways few long3 long7 (length-pack (d .width) (d .horizon) p) ∙ g .finish)
       finishes k x (no z) = rw (other k z) (finish-other ways few long3 long7 (length-pack (d .width) (d .horizon) p) k z ∙ old .finishes k x)
 
-      walk : (k : ℕ) → k < d .count → Dec (k ≡ i) → Mem (pathOf d kid k) (walks d (d .horizon) (startOf d (carrier k)))
+      walk : (k : ℕ) → k < d .count → Dec (k ≡ i) → Mem (storedPath d kid k) (walks d (d .horizon) (startOf d (carrier k)))
       walk k x (yes z) = rw (z, here) (g .walk)
       walk k x (no z) = rw (other k z) (old .paths k x)
 
-  kid-paths : pathsOf d kid ≡ set (pathsOf d parent) i p
+  kid-paths : storedPaths d kid ≡ set (storedPaths d parent) i p
   kid-paths =
-      map-set (pathOf d parent) (pathOf d kid) 0 (d .count) i p (ap (pathOf d kid) (zero-add i) ∙ here)
+      map-set (storedPath d parent) (storedPath d kid) 0 (d .count) i p (ap (storedPath d kid) (zero-add i) ∙ here)
       (λ k ne. other k (λ z. ne (z ∙ sym (zero-add i))))
 
   kid-node : nodeOf d kid (upward (ownIn kid) (linkIn kid) (constraintsAt work)) ≡ childNode (problem d) (nodeAt d work n) c p
   unfolding nodeOf problem
   kid-node =
-      node-is d kid (upward (ownIn kid) (linkIn kid) (constraintsAt work)) false (assignmentOf d parent) (c ∷ constraintsAt work n) (set (pathsOf d parent) (boundBy c) p)
+      node-is d kid (upward (ownIn kid) (linkIn kid) (constraintsAt work)) false (assignmentOf d parent) (c ∷ constraintsAt work n) (set (storedPaths d parent) (boundBy c) p)
       (ap (λ (x : ℕ). eqb x 0) (child-link work n c i t words) ∙ ne-eqb (n + 1) 0 (λ z. omega arith))
       (ap (take (d .count)) tasks)
       (ap₂ (λ (x : Constraint) (y : ℕ). upward x y (constraintsAt work)) (child-own work n c i t words) (child-link work n c i t words ∙ add-one n))
-      (kid-paths ∙ ap (λ (j : ℕ). set (pathsOf d parent) j p) (sym (g .binds)))
+      (kid-paths ∙ ap (λ (j : ℕ). set (storedPaths d parent) j p) (sym (g .binds)))
 
   -- the child is made
   pub child-added : (mid after : List ℕ) (v : ℕ) → made < limit → limit ≤ 4096 → 512 * limit + 4096 ≤ length mid → Wrote work mid made kid → v ≡ sum (finishesIn kid) % 4294967296
@@ -186,10 +186,10 @@ module _ (d : Sheet) where
     seven : length (getD (fieldsAt before n) 7 []) ≡ 240
     seven = length-field before n 7 (omega arith) h
 
-    at-i : pathOf d (fieldsAt after n) i ≡ p
+    at-i : storedPath d (fieldsAt after n) i ≡ p
     at-i = path-here ways-set few-roots three seven packs d p f b (least-walk d (carrier i) (task (getD a i 0)) [] p e) refl
 
-    at-k : (k : ℕ) → (k ≡ i → ⊥) → pathOf d (fieldsAt after n) k ≡ pathOf d (fieldsAt before n) k
+    at-k : (k : ℕ) → (k ≡ i → ⊥) → storedPath d (fieldsAt after n) k ≡ storedPath d (fieldsAt before n) k
     at-k k ne = path-other ways-set few-roots three seven packs d k ne
 
     -- one path more
@@ -206,11 +206,11 @@ module _ (d : Sheet) where
           zeros = λ k x. finish-other ways-set few-roots three seven packs k (λ z. omega arith) ∙ r .zeros k (omega arith);
         }
       where
-        least : (k : ℕ) → Dec (k ≡ i) → k < i + 1 → leastPath d (carrier k) (task (getD a k 0)) [] ≡ some (pathOf d (fieldsAt after n) k)
+        least : (k : ℕ) → Dec (k ≡ i) → k < i + 1 → leastPath d (carrier k) (task (getD a k 0)) [] ≡ some (storedPath d (fieldsAt after n) k)
         least k (yes z) x = rw (z, at-i) e
         least k (no z) x = rw (at-k k z) (r .least k (omega arith))
 
-        finishes : (k : ℕ) → Dec (k ≡ i) → k < i + 1 → getD (finishesIn (fieldsAt after n)) k 0 ≡ finishOf d (task (getD a k 0)) (pathOf d (fieldsAt after n) k)
+        finishes : (k : ℕ) → Dec (k ≡ i) → k < i + 1 → getD (finishesIn (fieldsAt after n)) k 0 ≡ finishOf d (task (getD a k 0)) (storedPath d (fieldsAt after n) k)
         finishes k (yes z) x = rw (z, at-i) (finish-here ways-set few-roots three seven packs ∙ q)
         finishes k (no z) x = rw (at-k k z) (finish-other ways-set few-roots three seven packs k z ∙ r .finishes k (omega arith))
 
@@ -249,13 +249,13 @@ module _ (d : Sheet) where
           past = past-task;
           finishes = λ k h. rw (root-task k h) (r .finishes k h);
           zeros = r .zeros;
-          paths = λ k h. least-walk d (carrier k) (task (getD a k 0)) [] (pathOf d root k) (r .least k h);
+          paths = λ k h. least-walk d (carrier k) (task (getD a k 0)) [] (storedPath d root k) (r .least k h);
         }
 
     root-node : nodeOf d root (upward (ownIn root) (linkIn root) (constraintsAt work)) ≡ rootOf (problem d) a
     unfolding problem
     root-node =
-        let ps : pathsOf d root ≡ rootPaths (problem d) a = map-same (pathOf d root) _ 0 (d .count) (λ k x y. rw (r .least k (omega arith))) in
+        let ps : storedPaths d root ≡ rootPaths (problem d) a = map-same (storedPath d root) _ 0 (d .count) (λ k x y. rw (r .least k (omega arith))) in
         let ts : assignmentOf d root ≡ a = rw (r .tasks) (take-at a (replicate (12 - length a) 255) (d .count) (r .long)) in
         node-is d root (upward (ownIn root) (linkIn root) (constraintsAt work)) true a [] (rootPaths (problem d) a)
         (rw (r .link)) ts (rw (r .link)) ps

@@ -23,7 +23,7 @@ use Rattle.meaning.proofs.Accepted.{accepted, header-says, accepted-start}
 use Rattle.records.specs.Record.{fieldsAt, rootIn, tasksIn, finishesIn, wordsOf, Small, bytes}
 use Rattle.records.proofs.Frames.{length-field}
 use Rattle.records.proofs.Words.{bytes-same, length-words}
-use Rattle.nodes.specs.Nodes.{pathIn, pathsIn, pathOf, nodeOf, nodeAt}
+use Rattle.nodes.specs.Nodes.{pathIn, pathsIn, storedPath, nodeOf, nodeAt}
 use Rattle.meaning.specs.Constraints.{InRange}
 use Rattle.nodes.specs.Stored.{Fits, Stored}
 use Rattle.nodes.proofs.Tables.{map-same}
@@ -57,7 +57,7 @@ module _ (d : Sheet) (work : List ℕ) (n : ℕ) where
   unfolding nodeOf
   task-read i h = sym (getD-take (d .count) (tasksIn (fieldsAt work n)) i 0 h)
 
-  pub path-read : (i : ℕ) → i < d .count → pathAt (problem d) (nodeAt d work n .paths) i ≡ pathOf d (fieldsAt work n) i
+  pub path-read : (i : ℕ) → i < d .count → pathAt (problem d) (nodeAt d work n .paths) i ≡ storedPath d (fieldsAt work n) i
   unfolding nodeOf problem
   path-read i h = path-at d (fieldsAt work n) i h
 
@@ -67,7 +67,7 @@ module _ (d : Sheet) (work : List ℕ) (n : ℕ) where
   unfolding nodeOf
   paths-read w last m starts ew el em es =
       rw (ew, el, em)
-      (map-same (pathIn (d .width) (d .horizon) starts (fieldsAt work n)) (pathOf d (fieldsAt work n)) 0 (d .count) (λ i a b. rw (es i (omega arith))))
+      (map-same (pathIn (d .width) (d .horizon) starts (fieldsAt work n)) (storedPath d (fieldsAt work n)) 0 (d .count) (λ i a b. rw (es i (omega arith))))
 
   module _ (limit made : ℕ) (f : Fits d) (s : Stored d limit work made) (b : n < made) (h : 512 * n + 512 ≤ length work) where
     pub finish-read : (i : ℕ) → i < d .count

@@ -47,21 +47,21 @@ pathIn w last starts fs i = unpackOf w last (packedIn fs i) (getD starts i 0)
 abbrev pub pathsIn : ℕ → ℕ → List ℕ → ℕ → List (List ℕ) → List (List ℕ)
 pathsIn w last starts m fs = map (pathIn w last starts fs) (below m)
 
-abbrev pub pathOf : Sheet → List (List ℕ) → ℕ → List ℕ
-pathOf d fs i = pathIn (d .width) (d .horizon) (d .starts) fs i
+abbrev pub storedPath : Sheet → List (List ℕ) → ℕ → List ℕ
+storedPath d fs i = pathIn (d .width) (d .horizon) (d .starts) fs i
 
-abbrev pub pathsOf : Sheet → List (List ℕ) → List (List ℕ)
-pathsOf d fs = pathsIn (d .width) (d .horizon) (d .starts) (d .count) fs
+abbrev pub storedPaths : Sheet → List (List ℕ) → List (List ℕ)
+storedPaths d fs = pathsIn (d .width) (d .horizon) (d .starts) (d .count) fs
 
 abbrev pub assignmentOf : Sheet → List (List ℕ) → List ℕ
 assignmentOf d fs = take (d .count) (tasksIn fs)
 
 unfoldable pub costOf : Sheet → List (List ℕ) → ℕ
-costOf d fs = flowtime (problem d) (assignmentOf d fs) (pathsOf d fs)
+costOf d fs = flowtime (problem d) (assignmentOf d fs) (storedPaths d fs)
 
 -- the node of a record, with the constraints along its links
 unfoldable pub nodeOf : Sheet → List (List ℕ) → List Constraint → Node (List ℕ) Constraint
-nodeOf d fs cs = record { root = rootIn fs; tasks = assignmentOf d fs; constraints = cs; paths = pathsOf d fs; cost = costOf d fs }
+nodeOf d fs cs = record { root = rootIn fs; tasks = assignmentOf d fs; constraints = cs; paths = storedPaths d fs; cost = costOf d fs }
 
 abbrev pub nodeAt : Sheet → List ℕ → ℕ → Node (List ℕ) Constraint
 nodeAt d work n = nodeOf d (fieldsAt work n) (constraintsAt work n)

@@ -12,7 +12,7 @@ use Rattle.deck.specs.Calls.{taskList}
 use Rattle.deck.specs.declared.Constraint.{Constraint}
 use Rattle.meaning.specs.Constraints.{InRange}
 use Rattle.records.specs.Record.{fieldsAt, linkIn, ownIn, tasksIn, finishesIn, Small, keyAt, closedKey}
-use Rattle.nodes.specs.Nodes.{pathOf, costOf, nodeAt, openedAt}
+use Rattle.nodes.specs.Nodes.{storedPath, costOf, nodeAt, openedAt}
 
 -- what an accepted sheet keeps, as far as the node store needs it
 pub record Fits (d : Sheet) : Type 0 where
@@ -36,9 +36,9 @@ pub record Sound (d : Sheet) (k : ℕ) (fs : List (List ℕ)) : Type 0 where
   pub bytes : (i : ℕ) → getD (tasksIn fs) i 0 < 256
   pub past : (i : ℕ) → d .count ≤ i → i < 12 → getD (tasksIn fs) i 0 ≡ 255
   -- each finish is that of the path, 0 from m on
-  pub finishes : (i : ℕ) → i < d .count → getD (finishesIn fs) i 0 ≡ finishOf d (task (getD (tasksIn fs) i 0)) (pathOf d fs i)
+  pub finishes : (i : ℕ) → i < d .count → getD (finishesIn fs) i 0 ≡ finishOf d (task (getD (tasksIn fs) i 0)) (storedPath d fs i)
   pub zeros : (i : ℕ) → d .count ≤ i → getD (finishesIn fs) i 0 ≡ 0
-  pub paths : (i : ℕ) → i < d .count → Mem (pathOf d fs i) (walks d (d .horizon) (startOf d (carrier i)))
+  pub paths : (i : ℕ) → i < d .count → Mem (storedPath d fs i) (walks d (d .horizon) (startOf d (carrier i)))
 
 -- THE INVARIANT: the first `made` records are those of nodes, and the key of each open one is its cost
 pub record Stored (d : Sheet) (limit : ℕ) (work : List ℕ) (made : ℕ) : Type 0 where
@@ -78,6 +78,6 @@ pub record RootSoFar (d : Sheet) (work : List ℕ) (n : ℕ) (a : List ℕ) (i :
   pub tasks : tasksIn (fieldsAt work n) ≡ taskList a
   pub long : length a ≡ d .count
   pub bytes : (k : ℕ) → getD a k 0 < 256
-  pub least : (k : ℕ) → k < i → leastPath d (carrier k) (task (getD a k 0)) [] ≡ some (pathOf d (fieldsAt work n) k)
-  pub finishes : (k : ℕ) → k < i → getD (finishesIn (fieldsAt work n)) k 0 ≡ finishOf d (task (getD a k 0)) (pathOf d (fieldsAt work n) k)
+  pub least : (k : ℕ) → k < i → leastPath d (carrier k) (task (getD a k 0)) [] ≡ some (storedPath d (fieldsAt work n) k)
+  pub finishes : (k : ℕ) → k < i → getD (finishesIn (fieldsAt work n)) k 0 ≡ finishOf d (task (getD a k 0)) (storedPath d (fieldsAt work n) k)
   pub zeros : (k : ℕ) → i ≤ k → getD (finishesIn (fieldsAt work n)) k 0 ≡ 0
