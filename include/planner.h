@@ -11,12 +11,14 @@
  * - A refused call writes its numbers, and the three lists of the least assignment, and nothing else.
  *
  * Sheets: bytes as document 01 says. m carriers and tasks, horizon H, places y * w + x. A path lists H + 1 places.
+ * Grid bytes: 0 free; 1 blocked; 2, 3, 4 and 5 free, but a lane: it may be left only to the north (place - w), east, south or west.
+ * A carrier may wait on a lane, and enter it from any side. A lane that leads off the grid or to a blocked place is not left.
  *
  * Causes, in the order in which they are tried:
  *    1  the sheet has under 8 bytes
  *    2  a header byte is outside its range
  *    3  the directory is cut off or breaks a pair's rule
- *    4  a grid byte is above 1
+ *    4  a grid byte is above 5
  *    5  a start is off the grid, blocked or shared
  *    6  a goal is off the grid or blocked
  *    7  two tasks have one last goal

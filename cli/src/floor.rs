@@ -3,7 +3,7 @@
 use std::collections::BTreeMap;
 use std::fmt::Write;
 
-use carrier_planner::{Carrier, Place, Plan, Sheet, Task};
+use carrier_planner::{Carrier, Direction, Place, Plan, Sheet, Task};
 
 use crate::text::{carrier_letter, task_letter};
 
@@ -85,7 +85,7 @@ pub fn short(value: f64) -> String {
     text.trim_end_matches('0').trim_end_matches('.').to_string()
 }
 
-/// The floor with its rulers. Styles come by class: `ground`, `blocked`, `lines`, `ruler`.
+/// The floor with its lanes and rulers. Styles come by class: `ground`, `blocked`, `lines`, `lane`, `ruler`.
 pub fn ground(sheet: &Sheet) -> String {
     let (w, h) = (sheet.width() as f64 * CELL, sheet.height() as f64 * CELL);
     let mut svg = format!("<rect class=\"ground\" width=\"{w}\" height=\"{h}\"/>\n");
@@ -106,6 +106,7 @@ pub fn ground(sheet: &Sheet) -> String {
         let _ = write!(lines, "M0 {}h{w}", y as f64 * CELL);
     }
     let _ = writeln!(svg, "<path class=\"lines\" d=\"{lines}\"/>");
+    svg.push_str(&lanes(sheet));
     for x in 0..sheet.width() {
         let at = (x as f64 + 0.5) * CELL;
         let _ = writeln!(svg, "<text class=\"ruler\" x=\"{at}\" y=\"-7\">{x}</text>");
@@ -113,6 +114,28 @@ pub fn ground(sheet: &Sheet) -> String {
     for y in 0..sheet.height() {
         let at = (y as f64 + 0.5) * CELL + 4.0;
         let _ = writeln!(svg, "<text class=\"ruler\" x=\"-12\" y=\"{at}\">{y}</text>");
+    }
+    svg
+}
+
+/// The lanes: an arrow to the side by which each is left, with a title in words. Its head lies at the edge, so that a goal or a carrier
+/// on the place leaves it in sight.
+fn lanes(sheet: &Sheet) -> String {
+    let mut svg = String::new();
+    for (place, direction) in sheet.places().filter_map(|place| Some((place, sheet.lane(place)?))) {
+        let (x, y) = corner(sheet, place);
+        let turn = match direction {
+            Direction::North => 0,
+            Direction::East => 90,
+            Direction::South => 180,
+            Direction::West => 270,
+        };
+        let _ = writeln!(
+            svg,
+            "<g class=\"lane\" data-lane=\"{direction}\" transform=\"translate({x} {y}) rotate({turn} 16 16)\"><title>lane at {}: \
+             left only to the {direction}</title><path class=\"shaft\" d=\"M16 29V8\"/><path class=\"head\" d=\"M16 1.5L24 10.5H8z\"/></g>",
+            point(sheet, place)
+        );
     }
     svg
 }
@@ -265,14 +288,14 @@ pub fn token(sheet: &Sheet, carrier: Carrier) -> String {
 }
 
 /// How far a carrier's line is beside the middle of its places, so that lines on one way lie beside each other.
-fn lane(sheet: &Sheet, carrier: Carrier) -> f64 {
+fn shift(sheet: &Sheet, carrier: Carrier) -> f64 {
     let m = sheet.m() as f64;
     (carrier.0 as f64 - (m - 1.0) / 2.0) * (16.0 / m).min(4.0)
 }
 
 /// The corners of a carrier's line: its places without waits.
 pub fn line(sheet: &Sheet, plan: &Plan, carrier: Carrier) -> Vec<(f64, f64)> {
-    let shift = lane(sheet, carrier) + CELL / 2.0;
+    let shift = shift(sheet, carrier) + CELL / 2.0;
     let mut path = plan.path(carrier).to_vec();
     path.dedup();
     path.iter()

@@ -33,7 +33,8 @@ A text is typed like this (docs/TEXT.md has all of it):
   task a: p a
 
 Capital letters A to L are carriers, `#` is blocked, other letters are places by name. Task a goes by
-way of p to its gate a; task b has no line, so the letter b on the floor is its only goal.
+way of p to its gate a; task b has no line, so the letter b on the floor is its only goal. The signs
+↑ → ↓ ← are lanes, which a carrier leaves only that way; a line `lane east: A 3,1` makes lanes too.
 
 Exit status: 0 a plan, a yes, done; 1 no plan, or a no; 2 the node limit is spent; 3 a sheet, text or
 plan file is refused; 4 trouble with the command line or a file.

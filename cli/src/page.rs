@@ -60,16 +60,18 @@ fn answered(sheet: &Sheet, answer: &Answer, sentence: &str) -> String {
     match answer.plan() {
         // Beside the floor, so that a large floor has the window's height.
         Some(plan) => format!(
-            "<main>\n<section class=\"left\">\n{floor}{}</section>\n<section class=\"right\">\n{sentence}{}{}{LEGEND}</section>\n</main>\n\
+            "<main>\n<section class=\"left\">\n{floor}{}</section>\n<section class=\"right\">\n{sentence}{}{}{}</section>\n</main>\n\
              <script type=\"application/json\" id=\"data\">{}</script>\n<script>\n{SCRIPT}</script>\n",
             controls(sheet),
             rounds(sheet, plan),
             keys(plan),
+            legend(sheet),
             data(sheet, plan)
         ),
         None => format!(
-            "{sentence}<main>\n<section class=\"left\">\n{floor}</section>\n<section class=\"right\">\n{}{LEGEND}</section>\n</main>\n",
-            unplanned(sheet)
+            "{sentence}<main>\n<section class=\"left\">\n{floor}</section>\n<section class=\"right\">\n{}{}</section>\n</main>\n",
+            unplanned(sheet),
+            legend(sheet)
         ),
     }
 }
@@ -125,9 +127,18 @@ fn keys(plan: &Plan) -> String {
     )
 }
 
-const LEGEND: &str = "<p class=\"legend\"><b>Signs.</b> A disc is a carrier, a diamond a stop with its place in \
-    the task's order, a square frame a gate; hatched places are blocked. A place is named column,row, both from 0 \
-    at the upper left. Letters are those of the sheet's text.</p>\n";
+fn legend(sheet: &Sheet) -> String {
+    let lanes = if sheet.places().any(|place| sheet.lane(place).is_some()) {
+        "; an arrow is a lane, which a carrier leaves only that way"
+    } else {
+        ""
+    };
+    format!(
+        "<p class=\"legend\"><b>Signs.</b> A disc is a carrier, a diamond a stop with its place in the task's order, a \
+         square frame a gate; hatched places are blocked{lanes}. A place is named column,row, both from 0 at the upper \
+         left. Letters are those of the sheet's text.</p>\n"
+    )
+}
 
 fn trail(sheet: &Sheet, plan: &Plan, carrier: Carrier) -> String {
     let line = floor::line(sheet, plan, carrier);

@@ -11,7 +11,7 @@ use crate::text::{carrier_letter, task_letter};
 
 const STYLE: &str = "text{font-family:Helvetica,Arial,sans-serif}.title{font-size:17px;font-weight:700}.words,.entry{font-size:12px}\
 .ground{fill:#fff}.blocked{fill:#c4c4c4}.hatch{fill:url(#hatch)}.stripe{stroke:#777;stroke-width:4}\
-.lines{fill:none;stroke:#bbb;stroke-width:1}.ruler{font-size:11px;fill:#444;text-anchor:middle}\
+.lines{fill:none;stroke:#bbb;stroke-width:1}.lane .shaft{fill:none;stroke:#999;stroke-width:3}.lane .head{fill:#999}.ruler{font-size:11px;fill:#444;text-anchor:middle}\
 .goal text,.token text{text-anchor:middle;font-weight:700}.gate text{fill:#111;paint-order:stroke;stroke:#fff;stroke-width:3px}.gate .edge{fill:none;stroke:#111;stroke-width:5}.gate .frame{fill-opacity:0;stroke-width:3}\
 .stop path{stroke:#111;stroke-width:1}.token .halo{fill:#111}.way{fill:none;stroke-linejoin:round;stroke-width:2.6}\
 .under{fill:none;stroke:#111;stroke-linejoin:round;stroke-width:3.8}.arrow{stroke:#111;stroke-width:.6}.wait{fill:#fff;stroke:#111;stroke-width:.8}\

@@ -63,9 +63,13 @@ pub fn count(number: usize, one: &str) -> String {
 /// What an accepted sheet holds.
 pub fn summary(sheet: &Sheet) -> String {
     let blocked = sheet.places().filter(|place| !sheet.is_free(*place)).count();
+    let lanes = match sheet.places().filter(|place| sheet.lane(*place).is_some()).count() {
+        0 => String::new(),
+        number => format!(", {}", count(number, "lane")),
+    };
     let words = sheet.workspace();
     format!(
-        "accepted: a floor of {} by {}, {blocked} of its {} places blocked; {} and as many tasks; horizon {}; \
+        "accepted: a floor of {} by {}, {blocked} of its {} places blocked{lanes}; {} and as many tasks; horizon {}; \
          node limit {}; a search asks for {words} words of workspace ({} KiB)\n",
         sheet.width(),
         sheet.height(),
@@ -81,15 +85,20 @@ pub fn summary(sheet: &Sheet) -> String {
 pub fn summary_json(sheet: &Sheet) -> String {
     let goals: Vec<String> = sheet.tasks().map(|task| numbers(sheet.goals(task))).collect();
     let blocked = sheet.places().filter(|place| !sheet.is_free(*place));
+    let lanes: Vec<String> = sheet
+        .places()
+        .filter_map(|place| Some(format!("{{\"place\":{place},\"leads\":\"{}\"}}", sheet.lane(place)?)))
+        .collect();
     format!(
         "{{\"kind\":\"accepted\",\"width\":{},\"height\":{},\"horizon\":{},\"node_limit\":{},\"workspace\":{},\
-         \"blocked\":{},\"starts\":{},\"tasks\":[{}]}}\n",
+         \"blocked\":{},\"lanes\":[{}],\"starts\":{},\"tasks\":[{}]}}\n",
         sheet.width(),
         sheet.height(),
         sheet.horizon(),
         sheet.node_limit(),
         sheet.workspace(),
         numbers(blocked),
+        lanes.join(","),
         numbers(sheet.carriers().filter_map(|carrier| sheet.start(carrier))),
         goals.join(",")
     )

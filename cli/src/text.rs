@@ -3,7 +3,9 @@
 use std::collections::BTreeMap;
 use std::fmt;
 
-use carrier_planner::{Carrier, Fault, Place, Refusal, Sheet, Task, Unfit, MOST_CARRIERS};
+use carrier_planner::{
+    Carrier, Direction, Fault, Place, Refusal, Sheet, SheetBuilder, Task, Unfit, MOST_CARRIERS,
+};
 
 /// In place of a line's number: the fault is of the whole.
 pub const WHOLE: usize = 0;
@@ -40,6 +42,20 @@ pub fn task_letter(task: Task) -> char {
     char::from(b'a' + task.0.min(MOST_CARRIERS) as u8)
 }
 
+/// The sign of a lane on the floor.
+pub fn lane_sign(direction: Direction) -> char {
+    match direction {
+        Direction::North => '↑',
+        Direction::East => '→',
+        Direction::South => '↓',
+        Direction::West => '←',
+    }
+}
+
+fn lane_of_sign(sign: char) -> Option<Direction> {
+    Direction::ALL.into_iter().find(|direction| lane_sign(*direction) == sign)
+}
+
 /// A value and the line that it stands in.
 type At<T> = (usize, T);
 
@@ -53,6 +69,8 @@ struct Lines {
     rows: Vec<At<Vec<char>>>,
     carriers: BTreeMap<usize, At<String>>,
     tasks: BTreeMap<usize, At<Vec<String>>>,
+    /// A direction may have several lines.
+    lanes: Vec<At<(Direction, Vec<String>)>>,
     last: usize,
 }
 
@@ -77,11 +95,7 @@ pub fn sheet_of_text(text: &str) -> Result<Sheet, TextError> {
     let mut builder = Sheet::builder(floor.width as u8, floor.height as u8)
         .horizon(horizon)
         .node_limit(lines.nodes.map_or(NODES, |(_, nodes)| nodes));
-    for (y, (_, row)) in lines.rows.iter().enumerate() {
-        for (x, _) in row.iter().enumerate().filter(|(_, &cell)| cell == '#') {
-            builder = builder.block(x as u8, y as u8);
-        }
-    }
+    builder = mark_floor(builder, &lines, &floor)?;
     let starts = find_starts(&lines, &floor)?;
     let tasks = find_tasks(&lines, &floor, starts.len())?;
     for (_, (x, y)) in &starts {
@@ -158,10 +172,15 @@ impl Lines {
                 }
                 once_each(&mut self.tasks, label, line, word, words)
             }
+            "lane" => {
+                let lane = lane_line(line, word, rest)?;
+                self.lanes.push((line, lane));
+                Ok(())
+            }
             _ => wrong(
                 line,
                 format!(
-                    "`{word}` is not known here; a line begins with floor, horizon, nodes, carrier or task"
+                    "`{word}` is not known here; a line begins with floor, horizon, nodes, carrier, task or lane"
                 ),
             ),
         }
@@ -204,11 +223,7 @@ fn label_and_words(
     rest: &str,
     first: char,
 ) -> Result<(usize, Vec<String>), TextError> {
-    let (label, places) = match rest.split_once(':') {
-        Some(two) => two,
-        None => rest.split_once(char::is_whitespace).unwrap_or((rest, "")),
-    };
-    let label = label.trim();
+    let (label, words) = head_and_words(rest);
     let mut letters = label.chars();
     let by_letter = match (letters.next(), letters.next()) {
         (Some(letter), None) if letter.is_ascii_alphabetic() => {
@@ -224,9 +239,29 @@ fn label_and_words(
             format!("`{word}` wants a letter {first} to {last} or a number 0 to 11 first, and has `{label}`"),
         );
     };
+    Ok((found, words))
+}
+
+/// What stands before the colon, which may be left out, and the places after it.
+fn head_and_words(rest: &str) -> (&str, Vec<String>) {
+    let (head, places) = match rest.split_once(':') {
+        Some(two) => two,
+        None => rest.split_once(char::is_whitespace).unwrap_or((rest, "")),
+    };
     // "3, 1" is one place.
     let joined = places.split(',').map(str::trim).collect::<Vec<_>>().join(",");
-    Ok((found, joined.split_whitespace().map(String::from).collect()))
+    (head.trim(), joined.split_whitespace().map(String::from).collect())
+}
+
+/// "north: 3,1 q" gives the direction and the words.
+fn lane_line(line: usize, word: &str, rest: &str) -> Result<(Direction, Vec<String>), TextError> {
+    let (head, words) = head_and_words(rest);
+    let found = Direction::ALL.into_iter().find(|direction| head.eq_ignore_ascii_case(direction.word()));
+    match found {
+        Some(_) if words.is_empty() => wrong(line, format!("`{word} {head}` without a place")),
+        Some(direction) => Ok((direction, words)),
+        None => wrong(line, format!("`{word}` wants north, east, south or west first, and has `{head}`")),
+    }
 }
 
 /// The width, of rows that are all as long.
@@ -238,7 +273,7 @@ fn check_rows(floor: usize, rows: &[At<Vec<char>>]) -> Result<usize, TextError> 
     for (index, (line, row)) in rows.iter().enumerate() {
         if let Some(column) = row.iter().position(|cell| !is_cell(*cell)) {
             let cell = row[column];
-            return wrong(*line, format!("`{cell}` in column {column} of the floor; a place is `.` free, `#` blocked or a letter. An empty line ends the floor"));
+            return wrong(*line, format!("`{cell}` in column {column} of the floor; a place is `.` free, `#` blocked, a lane `↑`, `→`, `↓` or `←`, or a letter. An empty line ends the floor"));
         }
         if row.len() != width {
             return wrong(*line, format!("this row has {} places, the first has {width}", row.len()));
@@ -257,7 +292,7 @@ fn check_rows(floor: usize, rows: &[At<Vec<char>>]) -> Result<usize, TextError> 
 }
 
 fn is_cell(cell: char) -> bool {
-    cell == '.' || cell == '#' || cell.is_ascii_alphabetic()
+    cell == '.' || cell == '#' || cell.is_ascii_alphabetic() || lane_of_sign(cell).is_some()
 }
 
 type Point = (u8, u8);
@@ -315,6 +350,41 @@ impl Floor {
             }
         }
     }
+}
+
+/// Blocked places and lanes: the signs on the floor, then the lines.
+fn mark_floor(mut builder: SheetBuilder, lines: &Lines, floor: &Floor) -> Result<SheetBuilder, TextError> {
+    for (y, (_, row)) in lines.rows.iter().enumerate() {
+        for (x, &cell) in row.iter().enumerate() {
+            if cell == '#' {
+                builder = builder.block(x as u8, y as u8);
+            } else if let Some(direction) = lane_of_sign(cell) {
+                builder = builder.lane(x as u8, y as u8, direction);
+            }
+        }
+    }
+    let mut named = BTreeMap::new();
+    for (line, (direction, words)) in &lines.lanes {
+        for word in words {
+            let (x, y) = floor.place(*line, word)?;
+            let (row_line, row) = &lines.rows[usize::from(y)];
+            match row[usize::from(x)] {
+                '#' => return wrong(*line, format!("{word} is blocked on the floor, in line {row_line}")),
+                cell if lane_of_sign(cell).is_some() => {
+                    return wrong(
+                        *line,
+                        format!("{word} is a lane on the floor already, in line {row_line}"),
+                    );
+                }
+                _ => {}
+            }
+            if let Some(first) = named.insert((x, y), *line) {
+                return wrong(*line, format!("{word} is a lane already, by line {first}"));
+            }
+            builder = builder.lane(x, y, *direction);
+        }
+    }
+    Ok(builder)
 }
 
 /// Lines and places of the carriers, without gaps.
@@ -421,23 +491,34 @@ fn refused(refusal: &Refusal, starts: &[At<Point>], tasks: &[At<Vec<Point>>]) ->
     TextError { line, message: format!("{message} (cause {})", refusal.cause.number()) }
 }
 
-/// The text of a sheet: carriers and gates as letters on the floor, further stops too as long as there are letters.
+/// The text of a sheet: carriers and gates as letters on the floor, further stops too as long as there are letters; lanes as signs on
+/// the floor, and where a letter stands by a line.
 pub fn text_of_sheet(sheet: &Sheet) -> String {
     let marks = Marks::of(sheet);
     let mut text = format!("horizon {}\nnodes {}\n\nfloor\n", sheet.horizon(), sheet.node_limit());
     for place in sheet.places() {
-        let free = if sheet.is_free(place) { '.' } else { '#' };
-        text.push(marks.by_place.get(&place).copied().unwrap_or(free));
+        text.push(marks.by_place.get(&place).copied().unwrap_or_else(|| sign(sheet, place)));
         if (usize::from(place.0) + 1) % sheet.width() == 0 {
             text.push('\n');
         }
     }
-    let tasks: Vec<String> = sheet.tasks().filter_map(|task| marks.task_line(sheet, task)).collect();
-    if !tasks.is_empty() {
+    let lanes = Direction::ALL.into_iter().filter_map(|direction| marks.lane_line(sheet, direction));
+    let tasks = sheet.tasks().filter_map(|task| marks.task_line(sheet, task));
+    let lines: Vec<String> = lanes.chain(tasks).collect();
+    if !lines.is_empty() {
         text.push('\n');
     }
-    text.extend(tasks);
+    text.extend(lines);
     text
+}
+
+/// The sign of a place without a letter.
+fn sign(sheet: &Sheet, place: Place) -> char {
+    match sheet.lane(place) {
+        Some(direction) => lane_sign(direction),
+        None if sheet.is_free(place) => '.',
+        None => '#',
+    }
 }
 
 /// The letters of a sheet's places.
@@ -464,6 +545,14 @@ impl Marks {
             }
         }
         Marks { by_place }
+    }
+
+    /// The lanes in this direction on whose places letters stand; `None` without any.
+    fn lane_line(&self, sheet: &Sheet, direction: Direction) -> Option<String> {
+        let places = sheet.places().filter(|&place| sheet.lane(place) == Some(direction));
+        let letters: Vec<String> =
+            places.filter_map(|place| self.by_place.get(&place)).map(char::to_string).collect();
+        (!letters.is_empty()).then(|| format!("lane {direction}: {}\n", letters.join(" ")))
     }
 
     /// `None` for a task whose only goal is its own letter on the floor.

@@ -80,6 +80,33 @@ fn pages_and_pictures_of_all_kinds() {
 }
 
 #[test]
+fn lanes_are_drawn_and_said() {
+    let sheet = "horizon 3\nfloor\nA→a\n↑↓←\n\nlane west: a\n";
+    for command in ["view", "picture"] {
+        let text = deckplan(&[command, "--as-text"], sheet.as_bytes()).printed();
+        well_formed(command, &text);
+        assert_eq!(text.matches("class=\"lane\"").count(), 5, "{command}");
+        for (place, direction, turn) in
+            [("1,0", "east", 90), ("2,0", "west", 270), ("0,1", "north", 0), ("1,1", "south", 180)]
+        {
+            assert!(
+                text.contains(&format!("<title>lane at {place}: left only to the {direction}</title>")),
+                "{command}: {place}"
+            );
+            assert!(
+                text.contains(&format!("data-lane=\"{direction}\" transform=\"translate(")),
+                "{command}: {direction}"
+            );
+            assert!(text.contains(&format!("rotate({turn} 16 16)")), "{command}: {turn}");
+        }
+    }
+    let said = "an arrow is a lane";
+    assert!(deckplan(&["view", "--as-text"], sheet.as_bytes()).printed().contains(said));
+    let plain = deckplan(&["view", "--as-text"], b"horizon 3\nfloor\nA.a\n").printed();
+    assert!(!plain.contains(said) && !plain.contains("class=\"lane\""));
+}
+
+#[test]
 fn names_are_escaped() {
     let text = "horizon 1\nfloor\nAa\n";
     let path = file("a&b\"<i>'.txt", text.as_bytes());

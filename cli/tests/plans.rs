@@ -173,7 +173,7 @@ fn damaged_sheets_are_explained() {
         (5, 17, "byte 4, the node limit, is 4370; it must be 1 to 4096"),
         (12, 29, "byte 12, the offset of pair 1 (the starts), is 29; it must be 28"),
         (18, 5, "byte 18, the length of pair 2 (task 0), is 5; it must be even, 2 to 16"),
-        (25, 2, "byte 25, place 1 (column 1, row 0), is 2; it must be 0 or 1"),
+        (25, 6, "byte 25, place 1 (column 1, row 0), is 6; it must be 0 to 5"),
         (30, 0, "byte 30, the start of carrier 1: carrier 0 starts on place 0 (column 0, row 0) too"),
         (36, 9, "byte 36, goal 0 of task 1: place 9 is off the grid, which has 4 places"),
         (38, 0, "byte 38, the last goal of task 1: task 0 ends on place 0 (column 0, row 0) too"),
@@ -187,8 +187,26 @@ fn damaged_sheets_are_explained() {
         assert!(json.starts_with("{\"kind\":\"refused\",\"cause\":"), "{json}");
     }
     let json = "{\"kind\":\"accepted\",\"width\":2,\"height\":2,\"horizon\":3,\"node_limit\":18,\"workspace\":13360,\
-                \"blocked\":[],\"starts\":[0,1],\"tasks\":[[1,0],[0,1]]}\n";
+                \"blocked\":[],\"lanes\":[],\"starts\":[0,1],\"tasks\":[[1,0],[0,1]]}\n";
     assert_eq!(deckplan(&["explain", "--json"], &sheet).printed(), json);
     let cut = deckplan(&["explain"], &sheet[..30]);
     assert!(cut.printed().contains("the last pair ends at byte 40, but the sheet has 30 bytes"));
+}
+
+#[test]
+fn lanes_in_words_and_json() {
+    let text = b"horizon 4\nfloor\nA\xe2\x86\x92a\n...\n\nlane south: A\n";
+    let said = deckplan(&["explain", "--as-text"], text).printed();
+    assert!(said.contains("0 of its 6 places blocked, 2 lanes;"), "{said}");
+    let json = deckplan(&["explain", "--json", "--as-text"], text).printed();
+    let lanes = "\"lanes\":[{\"place\":0,\"leads\":\"south\"},{\"place\":1,\"leads\":\"east\"}]";
+    assert!(json.contains(lanes), "{json}");
+    let sheet = file("lanes.txt", text);
+    let plan = deckplan(&["plan", &sheet], b"").printed();
+    assert_eq!(plan, "plan 4 nodes 1\ncarrier 0 task 0 finish 4: 0 3 4 1 2\n");
+    let wrong = deckplan(&["check", &sheet], b"plan 2 nodes 1\ncarrier 0 task 0 finish 2: 0 1 2 2 2\n");
+    assert_eq!(
+        (wrong.status, wrong.printed().as_str()),
+        (1, "no: carrier 0 goes from place 0 to 1 between times 0 and 1; place 0 is a lane that may be left only to the south\n")
+    );
 }

@@ -61,6 +61,24 @@ fn other_ways_to_type_the_same() {
     }
 }
 
+/// A ring of lanes, with letters on some of them.
+const RING: &str = "horizon 9\nnodes 50\n\nfloor\nA→↓\n↑#b\na←B\n\nlane north: a\nlane east: A\nlane south: b\nlane west: B\n";
+
+#[test]
+fn lanes_by_signs_and_by_lines() {
+    let ran = sheet_of(RING);
+    assert_eq!((ran.status, ran.error.as_str()), (0, ""));
+    let grid = usize::from(ran.out[8])..usize::from(ran.out[8]) + 9;
+    assert_eq!(ran.out[grid], [3, 3, 4, 2, 1, 4, 2, 5, 5]);
+    assert_eq!(deckplan(&["text"], &ran.out).printed(), RING);
+    // Every lane by a line, in any order, with places typed in every way.
+    let lines = "horizon 9\nnodes 50\nlane West 2,2 7\nfloor\nA..\n.#b\na.B\n\nlane south: 2,0 b\nLANE north: 3\nlane EAST: A 1, 0\nlane north: a\n";
+    let same = sheet_of(lines);
+    assert_eq!((same.error.as_str(), &same.out), ("", &ran.out));
+    let twice = sheet_of("horizon 1\nfloor\nA→a\n\nlane east: 1\n");
+    assert!(twice.error.contains("line 5: 1 is a lane on the floor already, in line 3"), "{}", twice.error);
+}
+
 #[test]
 fn errors_name_the_line() {
     let floor = "horizon 3\nfloor\nA.b\n.#B\n\n";
@@ -103,6 +121,11 @@ fn errors_name_the_line() {
         ("task c: A\n", "line 6: task c is one too many: there are 2 carriers"),
         ("task b: A\n", "line 6: there are 2 carriers, but no task a"),
         ("task a: A\ntask a: B\n", "line 7: task 0 has a line already, line 6"),
+        ("lane up: A\n", "line 6: `lane` wants north, east, south or west first, and has `up`"),
+        ("lane north:\n", "line 6: `lane north` without a place"),
+        ("lane north: 3,0\n", "line 6: 3,0 is off the floor"),
+        ("lane north: 1,1\n", "line 6: 1,1 is blocked on the floor, in line 4"),
+        ("lane north: A\nlane east: 1,0 A\n", "line 7: A is a lane already, by line 6"),
         ("task a: 1,1\n", "line 6: goal 1 of task a is 1,1, which is blocked (cause 6)"),
         ("task a: b\n", "line 3: task b ends on 2,0, as task a does in line 6 (cause 7)"),
         (
@@ -143,6 +166,7 @@ fn examples_are_planned() {
         example(&help, "horizon 12", "task a: p a"),
         example(&read("docs/TEXT.md"), "horizon 12", "task a: p a"),
         read("examples/sheets/crossing.txt"),
+        read("examples/sheets/lanes.txt"),
         read("examples/sheets/evening.txt"),
         read("examples/sheets/matinee.txt"),
     ];
@@ -192,6 +216,10 @@ fn no_text_panics() {
         "-1",
         ":",
         "task a: A\n",
+        "lane ",
+        "north: ",
+        "→",
+        "↓↑\n",
     ];
     for case in 0..1500 {
         let text: String = (0..rng.range(0, 25)).map(|_| rng.pick(&pieces)).collect();

@@ -9,6 +9,8 @@ pub struct Map {
     pub side: usize,
     /// Blocked places per hundred.
     pub blocked: usize,
+    /// Lanes per hundred of the others, each in any direction.
+    pub lanes: usize,
     pub carriers: usize,
     pub goals: usize,
     pub horizon: usize,
@@ -16,12 +18,17 @@ pub struct Map {
 }
 
 impl Map {
-    /// A sheet on which the free places are all connected: blocked places are drawn, and what cannot be reached is blocked too.
+    /// A sheet on which the free places are all connected: blocked places are drawn, and what cannot be reached is blocked too. Where
+    /// there are lanes, starts and goals are places from each of which each other can be reached.
     pub fn sheet(&self, rng: &mut Rng) -> Vec<u8> {
         loop {
             let area = self.side * self.side;
             let mut grid: Vec<u8> = (0..area).map(|_| u8::from(rng.chance(self.blocked, 100))).collect();
-            let free = self.keep_connected(&mut grid, rng);
+            let mut free = self.keep_connected(&mut grid, rng);
+            if self.lanes > 0 {
+                add_lanes(&mut grid, self.lanes, rng);
+                free = self.mutual(&grid, free[free.len() / 2]);
+            }
             if free.len() < 2 * area * (100 - self.blocked) / 300 {
                 continue;
             }
@@ -45,6 +52,39 @@ impl Map {
         }
     }
 
+    /// The places that can be reached from the first and from which it can be reached.
+    fn mutual(&self, grid: &[u8], first: usize) -> Vec<usize> {
+        let (to, from) = (self.reached(grid, first, false), self.reached(grid, first, true));
+        (0..grid.len()).filter(|&place| to[place] && from[place]).collect()
+    }
+
+    /// The places that can be reached from the first, or, backward, from which it can be.
+    fn reached(&self, grid: &[u8], first: usize, backward: bool) -> Vec<bool> {
+        let mut reached = vec![false; grid.len()];
+        let mut queue = vec![first];
+        reached[first] = true;
+        while let Some(place) = queue.pop() {
+            for (next, way) in self.around(place) {
+                let leaves =
+                    if backward { may_leave(grid[next], opposite(way)) } else { may_leave(grid[place], way) };
+                if leaves && grid[next] != 1 && !reached[next] {
+                    reached[next] = true;
+                    queue.push(next);
+                }
+            }
+        }
+        reached
+    }
+
+    /// The places next to one, each with the grid byte of a lane that leads there.
+    fn around(&self, place: usize) -> impl Iterator<Item = (usize, u8)> {
+        let (x, y, side) = (place % self.side, place / self.side, self.side);
+        let near = [(x, y.wrapping_sub(1), 2), (x + 1, y, 3), (x, y + 1, 4), (x.wrapping_sub(1), y, 5)];
+        near.into_iter()
+            .filter(move |&(x, y, _)| x < side && y < side)
+            .map(move |(x, y, way)| (y * side + x, way))
+    }
+
     fn keep_connected(&self, grid: &mut [u8], rng: &mut Rng) -> Vec<usize> {
         let open: Vec<usize> = (0..grid.len()).filter(|&place| grid[place] == 0).collect();
         let mut reached = vec![false; grid.len()];
@@ -52,11 +92,9 @@ impl Map {
         reached[queue[0]] = true;
         let mut head = 0;
         while head < queue.len() {
-            let (x, y) = (queue[head] % self.side, queue[head] / self.side);
+            let place = queue[head];
             head += 1;
-            let near = [(x.wrapping_sub(1), y), (x + 1, y), (x, y.wrapping_sub(1)), (x, y + 1)];
-            for (x, y) in near.into_iter().filter(|&(x, y)| x < self.side && y < self.side) {
-                let place = y * self.side + x;
+            for (place, _) in self.around(place) {
                 if grid[place] == 0 && !reached[place] {
                     reached[place] = true;
                     queue.push(place);
@@ -71,7 +109,26 @@ impl Map {
     }
 }
 
-/// An accepted sheet of any size: sides, carriers, goals and horizon anywhere in their ranges, small ones more often.
+/// Whether a place with this grid byte may be left the way of a lane with that byte.
+fn may_leave(byte: u8, way: u8) -> bool {
+    byte < 2 || byte == way
+}
+
+/// The lane that leads the other way.
+fn opposite(way: u8) -> u8 {
+    way % 4 + 2
+}
+
+/// Makes lanes of so many free places in a hundred.
+fn add_lanes(grid: &mut [u8], share: usize, rng: &mut Rng) {
+    for byte in grid.iter_mut().filter(|byte| **byte == 0) {
+        if rng.chance(share, 100) {
+            *byte = rng.range(2, 5) as u8;
+        }
+    }
+}
+
+/// An accepted sheet of any size: sides, carriers, goals and horizon anywhere in their ranges, small ones more often; a third with lanes.
 pub fn any(limit: usize, rng: &mut Rng) -> Vec<u8> {
     let most = rng.pick(&[3, 5, 8, 14, 32]);
     let (w, h) = (rng.range(1, most), rng.range(1, most));
@@ -79,6 +136,10 @@ pub fn any(limit: usize, rng: &mut Rng) -> Vec<u8> {
     let mut grid: Vec<u8> = (0..w * h).map(|_| u8::from(rng.chance(blocked, 100))).collect();
     grid[rng.range(0, w * h - 1)] = 0;
     let free: Vec<usize> = (0..w * h).filter(|&place| grid[place] == 0).collect();
+    if rng.chance(1, 3) {
+        let share = rng.pick(&[5, 15, 30, 60, 100]);
+        add_lanes(&mut grid, share, rng);
+    }
     let most = rng.pick(&[3, 6, 12]);
     let count = rng.range(1, free.len().min(most));
     let goals = rng.pick(&[1, 2, 3, 8]);

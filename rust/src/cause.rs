@@ -2,7 +2,7 @@
 
 use std::fmt;
 
-/// Why a call declines, with document 01's number and words.
+/// Why a call declines, with document 01's number and words, as document 02 changed them.
 #[derive(Clone, Copy, PartialEq, Eq, Hash, Debug)]
 #[non_exhaustive]
 pub enum Cause {
@@ -39,7 +39,7 @@ const TABLE: [(Cause, u32, &str); 12] = [
     (Cause::Short, 1, "under 8 bytes"),
     (Cause::Header, 2, "header byte outside its range"),
     (Cause::Directory, 3, "directory cut off or breaking a pair's rule"),
-    (Cause::Grid, 4, "grid byte above 1"),
+    (Cause::Grid, 4, "grid byte above 5"),
     (Cause::Start, 5, "start off grid, blocked or shared"),
     (Cause::Goal, 6, "goal off grid or blocked"),
     (Cause::LastGoal, 7, "two tasks with one last goal"),

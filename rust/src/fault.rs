@@ -3,7 +3,8 @@
 use std::fmt;
 
 use crate::layout::{
-    area, byte, directory_end, pairs, word, Pair, COUNT, HEADER, HEIGHT, LIMIT, RESERVED, WIDTH,
+    area, byte, directory_end, grid_byte, pairs, word, Pair, BLOCKED, COUNT, HEADER, HEIGHT, LAST_GRID_BYTE,
+    LIMIT, RESERVED, WIDTH,
 };
 use crate::{Carrier, Cause, Task};
 
@@ -193,7 +194,7 @@ impl fmt::Display for Fault {
                 write!(f, "the last pair ends at byte {expected}, but the sheet has {bytes} bytes")
             }
             Fault::Grid { byte, place, width, value } => {
-                write!(f, "byte {byte}, {}, is {value}; it must be 0 or 1", named(place, width, None))
+                write!(f, "byte {byte}, {}, is {value}; it must be 0 to 5", named(place, width, None))
             }
             Fault::Start { carrier, byte, place, width, unfit } => {
                 write!(
@@ -278,8 +279,8 @@ fn directory(bytes: &[u8]) -> Option<Fault> {
 
 fn grid(bytes: &[u8]) -> Option<Fault> {
     let (at, width) = (Pair::Grid.offset(bytes), byte(bytes, WIDTH));
-    let place = (0..area(bytes)).find(|&place| byte(bytes, at + place) > 1)?;
-    Some(Fault::Grid { byte: at + place, place, width, value: byte(bytes, at + place) as u8 })
+    let place = (0..area(bytes)).find(|&place| grid_byte(bytes, place) > LAST_GRID_BYTE)?;
+    Some(Fault::Grid { byte: at + place, place, width, value: grid_byte(bytes, place) as u8 })
 }
 
 fn unfit(bytes: &[u8], place: usize) -> Option<Unfit> {
@@ -287,7 +288,7 @@ fn unfit(bytes: &[u8], place: usize) -> Option<Unfit> {
     if place >= area {
         return Some(Unfit::OffGrid { area });
     }
-    (byte(bytes, Pair::Grid.offset(bytes) + place) != 0).then_some(Unfit::Blocked)
+    (grid_byte(bytes, place) == usize::from(BLOCKED)).then_some(Unfit::Blocked)
 }
 
 fn starts(bytes: &[u8]) -> Option<Fault> {

@@ -28,6 +28,16 @@ pub(crate) fn area(bytes: &[u8]) -> usize {
     byte(bytes, WIDTH) * byte(bytes, HEIGHT)
 }
 
+/// The grid byte of a blocked place. 0 is a free one, and 2 to 5 are lanes.
+pub(crate) const BLOCKED: u8 = 1;
+/// The greatest grid byte.
+pub(crate) const LAST_GRID_BYTE: usize = 5;
+
+/// The grid byte of a place; 0 past the sheet's end.
+pub(crate) fn grid_byte(bytes: &[u8], place: usize) -> usize {
+    byte(bytes, Pair::Grid.offset(bytes) + place)
+}
+
 /// What a pair of the directory points to.
 #[derive(Clone, Copy, PartialEq, Eq, Debug)]
 pub enum Pair {

@@ -30,6 +30,7 @@
 pub mod calls;
 mod cause;
 mod fault;
+mod lane;
 mod layout;
 mod parts;
 mod plan;
@@ -38,6 +39,7 @@ mod sheet;
 
 pub use cause::Cause;
 pub use fault::{Fault, Field, Refusal, Unfit};
+pub use lane::Direction;
 pub use layout::Pair;
 pub use parts::{first_collision, least_assignment, Assignment, Collision, Constraint, LeastPath, BARRED};
 pub use plan::{Answer, NotAPlan, Plan};

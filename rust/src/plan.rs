@@ -4,7 +4,7 @@ use std::fmt;
 
 use crate::parts::{first_collision, Collision};
 use crate::sheet::MOST_CARRIERS;
-use crate::{calls, Carrier, Cause, Place, Sheet, Task};
+use crate::{calls, Carrier, Cause, Direction, Place, Sheet, Task};
 
 /// A plan: for each carrier its task and its path, without collision. It can only be had from a search or from [`Sheet::check`].
 #[derive(Clone, PartialEq, Eq, Hash, Debug)]
@@ -180,6 +180,14 @@ pub enum NotAPlan {
         from: Place,
         to: Place,
     },
+    /// It leaves a lane to a place beside it where the lane does not lead.
+    Lane {
+        carrier: Carrier,
+        time: usize,
+        from: Place,
+        to: Place,
+        direction: Direction,
+    },
     NotFree {
         carrier: Carrier,
         time: usize,
@@ -219,6 +227,10 @@ impl fmt::Display for NotAPlan {
             NotAPlan::Step { carrier, time, from, to } => {
                 let after = time + 1;
                 write!(f, "{carrier} goes from place {from} to {to} between times {time} and {after}; they are not beside each other")
+            }
+            NotAPlan::Lane { carrier, time, from, to, direction } => {
+                let after = time + 1;
+                write!(f, "{carrier} goes from place {from} to {to} between times {time} and {after}; place {from} is a lane that may be left only to the {direction}")
             }
             NotAPlan::NotFree { carrier, time, place } => {
                 write!(f, "{carrier} is on place {place} at time {time}, which is blocked or off the floor")
@@ -283,7 +295,7 @@ impl Sheet {
         })
     }
 
-    /// The first of its places that is not the start, not beside the one before, or not free.
+    /// The first of its places that is not the start, not next to the one before, not where that one leads, or not free.
     fn wrong_path(&self, carrier: Carrier, path: &[Place]) -> Option<NotAPlan> {
         let (start, place) = (self.start(carrier)?, *path.first()?);
         if place != start {
@@ -298,8 +310,18 @@ impl Sheet {
                 return Some(NotAPlan::NotFree { carrier, time: time + 1, place: to });
             }
             let ((x, y), (to_x, to_y)) = (self.column_and_row(from), self.column_and_row(to));
-            let beside = x.abs_diff(to_x) + y.abs_diff(to_y) == 1;
-            (!beside).then_some(NotAPlan::Step { carrier, time, from, to })
+            if x.abs_diff(to_x) + y.abs_diff(to_y) != 1 {
+                return Some(NotAPlan::Step { carrier, time, from, to });
+            }
+            let direction = self.lane(from)?;
+            let leads = (x.checked_add_signed(direction.step().0), y.checked_add_signed(direction.step().1));
+            (leads != (Some(to_x), Some(to_y))).then_some(NotAPlan::Lane {
+                carrier,
+                time,
+                from,
+                to,
+                direction,
+            })
         })
     }
 

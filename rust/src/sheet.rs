@@ -4,7 +4,7 @@ use std::fmt;
 
 use crate::fault::{self, Fault, Refusal};
 use crate::layout::{self, Pair};
-use crate::{calls, Cause};
+use crate::{calls, Cause, Direction};
 
 /// The most carriers, and the length of every task list.
 pub const MOST_CARRIERS: usize = 12;
@@ -55,7 +55,7 @@ impl Sheet {
         }
     }
 
-    /// A builder for a floor of this size, without blocked places.
+    /// A builder for a floor of this size, without blocked places and lanes.
     pub fn builder(width: u8, height: u8) -> SheetBuilder {
         SheetBuilder::new(width, height)
     }
@@ -106,10 +106,20 @@ impl Sheet {
         (0..self.area() as u16).map(Place)
     }
 
-    /// Whether the place is on the floor and not blocked.
+    /// Whether the place is on the floor and not blocked. A lane is free.
     pub fn is_free(&self, place: Place) -> bool {
+        self.grid_byte(place).is_some_and(|byte| byte != usize::from(layout::BLOCKED))
+    }
+
+    /// Where the place leads if it is a lane, a free place that may be left in one direction only; `None` for every other place.
+    pub fn lane(&self, place: Place) -> Option<Direction> {
+        self.grid_byte(place).and_then(Direction::of_byte)
+    }
+
+    /// The grid byte of a place of the floor.
+    fn grid_byte(&self, place: Place) -> Option<usize> {
         let place = usize::from(place.0);
-        place < self.area() && layout::byte(&self.bytes, Pair::Grid.offset(&self.bytes) + place) == 0
+        (place < self.area()).then(|| layout::grid_byte(&self.bytes, place))
     }
 
     /// The place in column x and row y, both from 0.
@@ -209,20 +219,21 @@ pub struct SheetBuilder {
     height: u8,
     horizon: u8,
     limit: u16,
-    blocked: Vec<u16>,
+    /// Places with their grid bytes, in the order of the calls; all others are free.
+    marks: Vec<(u16, u8)>,
     starts: Vec<u16>,
     tasks: Vec<Vec<u16>>,
 }
 
 impl SheetBuilder {
-    /// A floor without blocked places, horizon 255 and node limit 4096, the most that there are.
+    /// A floor without blocked places and lanes, horizon 255 and node limit 4096, the most that there are.
     pub fn new(width: u8, height: u8) -> Self {
         SheetBuilder {
             width,
             height,
             horizon: 255,
             limit: 4096,
-            blocked: Vec::new(),
+            marks: Vec::new(),
             starts: Vec::new(),
             tasks: Vec::new(),
         }
@@ -240,7 +251,22 @@ impl SheetBuilder {
 
     /// Blocks the place in column x and row y; a point off the floor has no effect.
     pub fn block(mut self, x: u8, y: u8) -> Self {
-        self.blocked.push(self.place(x, y));
+        self.marks.push((self.place(x, y), layout::BLOCKED));
+        self
+    }
+
+    /// Makes the place in column x and row y a lane, which may be left in this direction only; a point off the floor has no effect.
+    /// Of several calls of this and [`SheetBuilder::block`] for one place the last counts.
+    ///
+    /// ```
+    /// use carrier_planner::{Direction, Place, Sheet};
+    /// let sheet = Sheet::builder(3, 1).lane(1, 0, Direction::East).carrier(0, 0).task([(2, 0)]).build()?;
+    /// assert_eq!(sheet.lane(Place(1)), Some(Direction::East));
+    /// assert_eq!(sheet.lane(Place(2)), None);
+    /// # Ok::<(), carrier_planner::Refusal>(())
+    /// ```
+    pub fn lane(mut self, x: u8, y: u8, direction: Direction) -> Self {
+        self.marks.push((self.place(x, y), direction.byte()));
         self
     }
 
@@ -274,9 +300,9 @@ impl SheetBuilder {
             offset += length;
         }
         let mut grid = vec![0; area];
-        for &place in &self.blocked {
+        for &(place, mark) in &self.marks {
             if let Some(byte) = grid.get_mut(usize::from(place)) {
-                *byte = 1;
+                *byte = mark;
             }
         }
         bytes.extend(grid);

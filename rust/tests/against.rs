@@ -2,7 +2,7 @@
 
 use carrier_planner::{calls, *};
 use other::gen::Rng;
-use other::{check, collide, generated, kinds, path, program, search, sheet, RULES};
+use other::{check, collide, generated, kinds, naive, path, program, search, sheet, RULES};
 
 /// Sheets of every kind; few of those that take long.
 fn sheets() -> impl Iterator<Item = (String, Vec<u8>)> {
@@ -28,8 +28,12 @@ fn sheets_and_causes() {
                 let header = (ours.width(), ours.height(), ours.m(), ours.horizon(), ours.node_limit());
                 assert_eq!(header, (other.w, other.h, other.m, other.horizon, other.limit), "{name}");
                 assert_eq!(ours.workspace(), other.workspace_words(), "{name}");
+                let grid = naive::read(RULES.changes(), &bytes).expect("an accepted sheet").grid;
                 for place in 0..1100 {
                     assert_eq!(ours.is_free(Place(place)), other.is_free(place.into()), "{name} {place}");
+                    let mark = grid.get(usize::from(place)).copied().unwrap_or_default();
+                    let lane = Direction::ALL.into_iter().zip(2..).find(|lane| lane.1 == mark);
+                    assert_eq!(ours.lane(Place(place)), lane.map(|lane| lane.0), "{name} {place}");
                 }
                 for number in 0..14 {
                     let start = (number < other.m).then(|| other.start(sheet::Carrier(number)));

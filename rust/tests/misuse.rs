@@ -51,10 +51,15 @@ fn builders_of_anything() {
             builder = builder.task(goals);
         }
         let (x, y) = point(&mut rng);
-        match builder.block(x, y).build() {
+        let direction = rng.pick(&Direction::ALL);
+        let (lane_x, lane_y) = point(&mut rng);
+        match builder.lane(lane_x, lane_y, direction).block(x, y).build() {
             Ok(sheet) => {
                 accepted += 1;
                 assert_eq!(sheet.m(), tasks);
+                let lane = sheet.place(lane_x.into(), lane_y.into()).map(|place| sheet.lane(place));
+                let expected = ((x, y) != (lane_x, lane_y)).then_some(direction);
+                assert!(lane.is_none_or(|lane| lane == expected));
             }
             Err(refusal) => assert!(refusal.fault.is_some(), "{refusal}"),
         }
@@ -129,4 +134,26 @@ fn causes_have_numbers_and_words() {
     }
     assert_eq!(Cause::from_number(0), None);
     assert_eq!(Cause::from_number(99).map(Cause::number), Some(99));
+}
+
+#[test]
+fn lanes_of_a_builder() {
+    let base = || Sheet::builder(3, 2).horizon(4).carrier(0, 0).task([(2, 0)]);
+    for (direction, byte) in Direction::ALL.into_iter().zip(2..) {
+        let sheet = base().block(1, 1).lane(1, 1, direction).lane(9, 9, direction).build().expect("accepted");
+        assert_eq!(sheet.lane(Place(4)), Some(direction));
+        assert!(sheet.is_free(Place(4)));
+        assert_eq!(sheet.places().filter_map(|place| sheet.lane(place)).count(), 1);
+        let mut bytes = sheet.into_bytes();
+        let at = usize::from(bytes[8]) + 4;
+        assert_eq!(std::mem::replace(&mut bytes[at], 6), byte);
+        let refusal = Sheet::new(bytes).expect_err("a byte above 5");
+        let said = format!(
+            "cause 4: grid byte above 5: byte {at}, place 4 (column 1, row 1), is 6; it must be 0 to 5"
+        );
+        assert_eq!(refusal.to_string(), said);
+    }
+    let sheet = base().lane(1, 1, Direction::West).block(1, 1).build().expect("accepted");
+    assert_eq!((sheet.lane(Place(4)), sheet.is_free(Place(4))), (None, false));
+    assert_eq!((sheet.lane(Place(6)), sheet.lane(Place(u16::MAX))), (None, None));
 }

@@ -1,28 +1,30 @@
 -- The five ways from a place: where they lead, on the grid and on the padded grid, and back; the steps by them; and the first
 -- that passes a test. Assumes nothing.
-use Prim.Native.Nat.{ℕ, zero, suc, _+_, _-_, _*_, _%_, _≤_, _<_}
-use mathlib.Core.Path.{_≡_, refl, sym, ap₂, _∙_, subst}
-use mathlib.Core.Logic.{_⊎_, inl, inr, ⊎-elim, _≢_}
-use mathlib.Core.Bool.{Bool, true, false, cond, _&&_}
+use Prim.Native.Nat.{ℕ, zero, suc, _+_, _-_, _*_, _/_, _%_, _≤_, _<_}
+use mathlib.Core.Path.{_≡_, refl, sym, ap, ap₂, _∙_, subst}
+use mathlib.Core.Logic.{_⊎_, inl, inr, ⊎-elim, _≢_, _↔_}
+use mathlib.Core.Bool.{Bool, true, false, cond, _&&_, _||_}
 use mathlib.Core.List.{List, [], _∷_, List·Memᴰ as Mem, List·Memᴰ·not-nil as not-nil}
 use native.Mathlib.Nat.{mod-le, mod-lt, eq-or-lt-of-le}
 use native.Mathlib.Omega.{arith}
 use lib.ListN.{getD}
-use lib.Dec.{T, leb→le, le→leb, ltb→lt, lt→ltb}
-use Rattle.deck.specs.Sheet.{Sheet, area, free}
-use Rattle.meaning.specs.Meaning.{Beside, Free}
+use lib.Dec.{T, eqb, leb→le, le→leb, ltb→lt, lt→ltb}
+use borrow.Author.Tests.{eq-eqb, ne-eqb}
+use Rattle.deck.specs.Sheet.{Sheet, area, gridByte, free}
+use Rattle.deck.specs.Paths.{mayLeave}
+use Rattle.meaning.specs.Meaning.{NextTo, Beside, Free}
 use Rattle.meaning.proofs.Tests.{is-true, is-false}
-use Rattle.meaning.proofs.Paths.{free-meant}
+use Rattle.meaning.proofs.Paths.{leave-meant, free-meant}
 use Rattle.kernel.specs.Layers.{firstOf}
 use Rattle.kernel.specs.Near.{consIf, near}
 use Rattle.kernel.specs.Parts.{stepFree}
 use Rattle.kernel.proofs.Both.{and-left, and-both}
-use Rattle.kernel.proofs.Near.{wide-of, left-row, right-row, right-inside, above-next, left-next, right-next, below-next, in-first, in-rest, cases-if}
+use Rattle.kernel.proofs.Near.{wide-of, left-row, right-row, below-row, right-inside, above-next, left-next, right-next, below-next, in-first, in-rest, cases-if}
 use Rattle.kernel.proofs.OfSheet.{step-free-meant, step-around}
 use Rattle.bars.specs.Padded.{padOf, Border, Holds, shade, MaskOf, Gate}
 use Rattle.bars.specs.Bars.{wayOf}
-use Rattle.bars.specs.Ways.{turnOf, moveBy, placeBy, hasBy, wayBack, leaves}
-use Rattle.bars.proofs.Gates.{shade-gate, gate-if}
+use Rattle.bars.specs.Ways.{turnOf, moveBy, placeBy, hasBy, wayBack, byteLeaves, leaves}
+use Rattle.bars.proofs.Gates.{shade-gate, gate-if, each-way}
 use Rattle.bars.proofs.Grid.{pad-least, pad-above, border-above, pad-left, border-left, pad-right, border-right, pad-below, border-below}
 use Rattle.bars.proofs.Ways.{way-above, way-left, way-same, way-right, way-below}
 
@@ -130,32 +132,101 @@ module _ (d : Sheet) (u : ℕ) (on : u < area d) where
       go (suc (suc (suc (suc zero)))) l = way-below (d .width + 2) (moveBy (d .width + 2) p 4) p (λ e. omega arith) (λ e. omega arith) (λ e. omega arith) (λ e. omega (arith, z)) (omega arith)
       go (suc (suc (suc (suc (suc x))))) l = absurd (omega arith)
 
-  touches : (x : ℕ) → x < 5 → T (hasBy d u x) → (u ≡ placeBy d u x) ⊎ Beside d u (placeBy d u x)
-  touches x l t = go x l t
-    where
-      next-to : (x v : ℕ) → placeBy d u x ≡ v → Beside d u v → (u ≡ placeBy d u x) ⊎ Beside d u (placeBy d u x)
-      next-to x v e b = inr (subst (λ (y : ℕ). Beside d u y) (sym e) b)
+  -- the place by a way to another place, with the rows and the columns of both
+  record Next (x : ℕ) : Type 0 where
+    near-by : NextTo (d .width) u (placeBy d u x)
+    leave : (b : ℕ) → mayLeave (d .width) b u (placeBy d u x) ≡ byteLeaves b x
 
-      go : (x : ℕ) → x < 5 → T (hasBy d u x) → (u ≡ placeBy d u x) ⊎ Beside d u (placeBy d u x)
-      go zero l t = next-to 0 (u - d .width) (omega arith) (above-next d u on t)
-      go (suc zero) l t = next-to 1 (u - 1) (omega (arith, z, mod-le u (d .width), ltb→lt 0 (u % d .width) t)) (left-next d u on t)
-      go (suc (suc zero)) l t = inl (omega arith)
-      go (suc (suc (suc zero))) l t = next-to 3 (u + 1) (omega arith) (right-next d u t)
-      go (suc (suc (suc (suc zero)))) l t = next-to 4 (u + d .width) (omega arith) (below-next d u on)
-      go (suc (suc (suc (suc (suc x))))) l t = absurd (omega arith)
+  -- what a grid byte asks of the row and the column of the next place, and of the way
+  leave-as : (b v x : ℕ) → eqb (suc (v / d .width)) (u / d .width) ≡ eqb x 0 → eqb (v % d .width) (suc (u % d .width)) ≡ eqb x 3
+      → eqb (v / d .width) (suc (u / d .width)) ≡ eqb x 4 → eqb (suc (v % d .width)) (u % d .width) ≡ eqb x 1 → mayLeave (d .width) b u v ≡ byteLeaves b x
+  unfolding mayLeave
+  leave-as b v x n e s w = rw (n, e, s, w) refl
+
+  next-as : (x v : ℕ) → placeBy d u x ≡ v → NextTo (d .width) u v → ((b : ℕ) → mayLeave (d .width) b u v ≡ byteLeaves b x) → Next x
+  next-as x v e n l = record {
+    near-by = subst (NextTo (d .width) u) (sym e) n;
+    leave = λ b. subst (λ (y : ℕ). mayLeave (d .width) b u y ≡ byteLeaves b x) (sym e) (l b);
+  }
+
+  abbrev row : ℕ → ℕ
+  row v = v / d .width
+
+  abbrev column : ℕ → ℕ
+  column v = v % d .width
+
+  -- the four tests of the place above, left, right and below
+  next-by : (x : ℕ) → x < 5 → x ≢ 2 → T (hasBy d u x) → Next x
+  next-by zero l o t =
+      let v : ℕ = u - d .width in
+      let e : u ≡ v + d .width = omega (arith, leb→le (d .width) u t) in
+      let r = below-row (d .width) v z in
+      let a : row u ≡ suc (row v) = ap row e ∙ r .0 in
+      let b : column u ≡ column v = ap column e ∙ r .1 in
+      next-as 0 v (omega arith) (above-next d u on t) (λ k. leave-as k v 0 (eq-eqb (suc (row v)) (row u) (sym a)) (ne-eqb (column v) (suc (column u)) (λ q. omega arith)) (ne-eqb (row v) (suc (row u)) (λ q. omega arith)) (ne-eqb (suc (column v)) (column u) (λ q. omega arith)))
+  next-by (suc zero) l o t =
+      let v : ℕ = u - 1 in
+      let h : 0 < column u = ltb→lt 0 (column u) t in
+      let r = left-row (d .width) u z h in
+      let a : row v ≡ row u = r .0 in
+      let b : suc (column v) ≡ column u = omega (arith, r .1) in
+      next-as 1 v (omega (arith, z, mod-le u (d .width))) (left-next d u on t) (λ k. leave-as k v 1 (ne-eqb (suc (row v)) (row u) (λ q. omega arith)) (ne-eqb (column v) (suc (column u)) (λ q. omega arith)) (ne-eqb (row v) (suc (row u)) (λ q. omega arith)) (eq-eqb (suc (column v)) (column u) b))
+  next-by (suc (suc zero)) l o t = absurd (o refl)
+  next-by (suc (suc (suc zero))) l o t =
+      let v : ℕ = u + 1 in
+      let r = right-row (d .width) u (ltb→lt (suc (column u)) (d .width) t) in
+      let a : row v ≡ row u = r .0 in
+      let b : column v ≡ suc (column u) = r .1 in
+      next-as 3 v (omega arith) (right-next d u t) (λ k. leave-as k v 3 (ne-eqb (suc (row v)) (row u) (λ q. omega arith)) (eq-eqb (column v) (suc (column u)) b) (ne-eqb (row v) (suc (row u)) (λ q. omega arith)) (ne-eqb (suc (column v)) (column u) (λ q. omega arith)))
+  next-by (suc (suc (suc (suc zero)))) l o t =
+      let v : ℕ = u + d .width in
+      let r = below-row (d .width) u z in
+      let a : row v ≡ suc (row u) = r .0 in
+      let b : column v ≡ column u = r .1 in
+      next-as 4 v (omega arith) (below-next d u on) (λ k. leave-as k v 4 (ne-eqb (suc (row v)) (row u) (λ q. omega arith)) (ne-eqb (column v) (suc (column u)) (λ q. omega arith)) (eq-eqb (row v) (suc (row u)) a) (ne-eqb (suc (column v)) (column u) (λ q. omega arith)))
+  next-by (suc (suc (suc (suc (suc x))))) l o t = absurd (omega arith)
+
+  -- a place next to another is another
+  next-other : (v : ℕ) → NextTo (d .width) u v → u ≢ v
+  next-other v (inl (a, inl b)) e = omega (arith, ap (λ (y : ℕ). y % d .width) e)
+  next-other v (inl (a, inr b)) e = omega (arith, ap (λ (y : ℕ). y % d .width) e)
+  next-other v (inr (a, inl b)) e = omega (arith, ap (λ (y : ℕ). y / d .width) e)
+  next-other v (inr (a, inr b)) e = omega (arith, ap (λ (y : ℕ). y / d .width) e)
+
+  -- a step by the way x is one to the place itself, or to one beside, which asks for the way
+  goes-by : (x : ℕ) → x < 5 → T (hasBy d u x) → ((u ≡ placeBy d u x) ⊎ Beside d u (placeBy d u x)) ↔ T (leaves d u x)
+  unfolding leaves
+  goes-by = each-way (λ (x : ℕ). T (hasBy d u x) → ((u ≡ placeBy d u x) ⊎ Beside d u (placeBy d u x)) ↔ T (leaves d u x))
+      (other 0 (omega arith) (λ e. omega arith)) (other 1 (omega arith) (λ e. omega arith)) (λ t. (λ h. tt, λ h. inl (omega arith)))
+      (other 3 (omega arith) (λ e. omega arith)) (other 4 (omega arith) (λ e. omega arith))
+    where
+      other : (x : ℕ) → x < 5 → x ≢ 2 → T (hasBy d u x) → ((u ≡ placeBy d u x) ⊎ Beside d u (placeBy d u x)) ↔ T (eqb x 2 || byteLeaves (gridByte d u) x)
+      other x l o t =
+          let r = next-by x l o t in
+          let b : ℕ = gridByte d u in
+          rw (ne-eqb x 2 o) (
+            ⊎-elim (λ e. absurd (next-other (placeBy d u x) (r .near-by) e)) (λ h. subst T (r .leave b) (leave-meant (d .width) b u (placeBy d u x) .test (h .1))),
+            λ h. inr (r .near-by, leave-meant (d .width) b u (placeBy d u x) .fact (subst T (sym (r .leave b)) h)),
+          )
 
   -- a step by the way x: the place may be left that way, and both places are free
   pub step-by : (x : ℕ) → x < 5 → T (hasBy d u x) → stepFree d u (placeBy d u x) ≡ (leaves d u x && (free d u && free d (placeBy d u x)))
-  unfolding leaves
-  step-by x l t = go (placeBy d u x) (touches x l t) (free d u) refl (free d (placeBy d u x)) refl
+  step-by x l t = go (leaves d u x) refl (free d u) refl (free d v) refl
     where
-      go : (v : ℕ) → (u ≡ v) ⊎ Beside d u v → (a : Bool) → free d u ≡ a → (b : Bool) → free d v ≡ b → stepFree d u v ≡ (a && b)
-      go v h true e true f = is-true (stepFree d u v) (step-free-meant d u v .test (is u e, (is v f, ⊎-elim (λ q. inl q) (λ q. inr (is v f, q)) h)))
+      v : ℕ
+      v = placeBy d u x
+
+      touching : T (stepFree d u v) → (u ≡ v) ⊎ Beside d u v
+      touching s = ⊎-elim (λ q. inl q) (λ q. inr (q .1)) (step-free-meant d u v .fact s .1 .1)
+
+      go : (o : Bool) → leaves d u x ≡ o → (a : Bool) → free d u ≡ a → (b : Bool) → free d v ≡ b → stepFree d u v ≡ (o && (a && b))
+      go true k true e true f = is-true (stepFree d u v) (step-free-meant d u v .test (is u e, (is v f, ⊎-elim (λ q. inl q) (λ q. inr (is v f, q)) (goes-by x l t .1 (subst T (sym k) tt)))))
         where
           is : (y : ℕ) → free d y ≡ true → Free d y
           is y e = free-meant d y .fact (subst T (sym e) tt)
-      go v h true e false f = is-false (stepFree d u v) (λ t. subst T f (free-meant d v .test (step-free-meant d u v .fact t .1 .0)))
-      go v h false e b f = is-false (stepFree d u v) (λ t. subst T e (free-meant d u .test (step-free-meant d u v .fact t .0)))
+      go true k true e false f = is-false (stepFree d u v) (λ t. subst T f (free-meant d v .test (step-free-meant d u v .fact t .1 .0)))
+      go true k false e b f = is-false (stepFree d u v) (λ t. subst T e (free-meant d u .test (step-free-meant d u v .fact t .0)))
+      go false k a e b f = is-false (stepFree d u v) (λ s. subst T k (goes-by x l t .0 (touching s)))
 
   pub near-ways : near d u ≡ byWays d u 5 0
   near-ways =
@@ -240,8 +311,3 @@ pub step-way : (d : Sheet) (u v : ℕ) (on : u < area d) → T (stepFree d u v) 
 step-way d u v on h =
     let r = way-of d u on v (step-around d u v h) in
     (r, and-left (leaves d u (r .by)) _ (subst T (step-by d u on (r .by) (r .within) (r .has)) (subst (λ (y : ℕ). T (stepFree d u y)) (r .to) h)))
-
--- on a grid of document 01 a place may be left by every way
-pub leaves-any : (d : Sheet) (u x : ℕ) → leaves d u x ≡ true
-unfolding leaves
-leaves-any d u x = refl

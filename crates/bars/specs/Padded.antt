@@ -6,8 +6,8 @@ use mathlib.Core.Logic.{_≢_}
 use mathlib.Core.Bool.{Bool, cond}
 use mathlib.Core.List.{List}
 use lib.ListN.{length, getD}
-use lib.Dec.{T}
-use Rattle.deck.specs.Sheet.{Sheet, area, free}
+use lib.Dec.{T, ltb, eqb}
+use Rattle.deck.specs.Sheet.{Sheet, area, gridByte}
 
 -- the padded number of a place
 abbrev pub padOf : ℕ → ℕ → ℕ
@@ -27,9 +27,14 @@ pub record Holds (d : Sheet) (x : List ℕ) (f : ℕ → ℕ) : Type 0 where
   pub inside : (v : ℕ) → v < area d → getD x (padOf (d .width) v) 0 ≡ f v
   pub border : (p : ℕ) → Border d p → getD x p 0 ≡ 0
 
--- what the mask says of a place: 255 where it is free, 0 where it is blocked
+-- what the mask says of a grid byte: 0 for a blocked place; else 224, so that every label passes, and the bits of the ways by which the
+-- place may be left (1 above, 2 left, 4 the place itself, 8 right, 16 below): all of them, or of a lane two
+abbrev pub shadeOf : ℕ → ℕ
+shadeOf b = cond (eqb b 1) 0 (cond (eqb b 2) 229 (cond (eqb b 3) 236 (cond (eqb b 4) 244 (cond (eqb b 5) 230 255))))
+
+-- what it says of a place
 unfoldable pub shade : Sheet → ℕ → ℕ
-shade d v = cond (free d v) 255 0
+shade d v = cond (ltb v (area d)) (shadeOf (gridByte d v)) 0
 
 -- the mask of a sheet
 abbrev pub MaskOf : Sheet → List ℕ → Type 0

@@ -1,7 +1,8 @@
 -- The five ways of a step: above, left, to the place itself, right, below. Assumes nothing.
-use Prim.Native.Nat.{ℕ, zero, suc, _+_, _-_, _*_}
-use mathlib.Core.Bool.{Bool, true}
-use Rattle.deck.specs.Sheet.{Sheet}
+use Prim.Native.Nat.{ℕ, zero, suc, _+_, _-_, _*_, _/_, _%_, _^_}
+use mathlib.Core.Bool.{Bool, true, cond, _||_}
+use lib.Dec.{eqb}
+use Rattle.deck.specs.Sheet.{Sheet, gridByte}
 use Rattle.kernel.specs.Near.{hasAbove, hasLeft, hasRight, hasBelow}
 
 -- how far the way x leads on a grid of width w, plus w
@@ -31,6 +32,14 @@ hasBy d u (suc (suc (suc (suc x)))) = hasBelow d u
 abbrev pub wayBack : ℕ → ℕ
 wayBack x = 4 - x
 
--- whether the place u may be left by the way x: on a grid of document 01 always
+-- whether a place with the grid byte b may be left by the way x to another place: north is above, east right, south below, west left
+abbrev pub byteLeaves : ℕ → ℕ → Bool
+byteLeaves b x = cond (eqb b 2) (eqb x 0) (cond (eqb b 3) (eqb x 3) (cond (eqb b 4) (eqb x 4) (cond (eqb b 5) (eqb x 1) true)))
+
+-- whether the place u may be left by the way x; waiting is always allowed
 unfoldable pub leaves : Sheet → ℕ → ℕ → Bool
-leaves d u x = true
+leaves d u x = eqb x 2 || byteLeaves (gridByte d u) x
+
+-- the byte m of the mask has the bit of the way x
+unfoldable pub opensBy : ℕ → ℕ → Bool
+opensBy m x = eqb (m / 2 ^ x % 2) 1

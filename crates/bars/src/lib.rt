@@ -10,7 +10,7 @@ ghost use lib.Dec.{eqb};
 ghost use Rattle.deck.specs.Calls.{recordWord, constraintAt, constraintsOf};
 ghost use Rattle.kernel.specs.Parts.{freeMove, freePlace, stayAfter, stayFrom};
 ghost use Rattle.bars.specs.Padded.{padOf};
-ghost use Rattle.bars.specs.Ways.{turnOf};
+ghost use Rattle.bars.specs.Ways.{opensBy, turnOf};
 ghost use Rattle.bars.specs.Bars.{countIn, Chained, Timely, OnLayer, Cleared, wayOf, slotOf, moveSlot, placeSlot, movesFrom, standsOn};
 
 // The padded number of the place v.
@@ -39,6 +39,14 @@ pub fn turn(w: usize, x: usize) -> usize
         return w + 1;
     }
     2 * w
+}
+
+// A place with the byte m of the mask may be left by the way x.
+pub fn opens(m: u8, x: usize) -> bool
+    requires { ⌜ x < 5 ⌝ }
+    ensures { λ r. ⌜ r ≡ opensBy m x ⌝ }
+{
+    (m >> x) % 2 == 1
 }
 
 fn wide16(x: u16) -> usize

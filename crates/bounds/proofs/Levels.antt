@@ -12,51 +12,39 @@ use Rattle.deck.specs.declared.Task.{Task}
 use Rattle.meaning.proofs.Paths.{free-meant}
 use Rattle.sheet.proofs.Accepted.{width-range, height-range, area-range, goals-range, goal-on-grid, last-of}
 use Rattle.kernel.specs.Parts.{stepFree}
+use Rattle.kernel.proofs.Both.{and-both}
 use Rattle.kernel.proofs.OfSheet.{step-free-meant}
 use Rattle.bars.specs.Padded.{padOf, MaskOf}
-use Rattle.bars.specs.Ways.{moveBy, placeBy, hasBy, wayBack}
-use Rattle.bars.proofs.Gates.{shade-gate}
+use Rattle.bars.specs.Ways.{moveBy, placeBy, wayBack, leaves, opensBy}
+use Rattle.bars.proofs.Gates.{shade-gate, opens-shade}
 use Rattle.bars.proofs.Grid.{pad-least, pad-most, size-of, size-small}
 use Rattle.bars.proofs.Leads.{leads, step-way}
 use Rattle.layers.specs.Fill.{Filled}
 use Rattle.passes.specs.Ready.{Goals}
-use Rattle.bounds.specs.Graded.{mostAround, Even, Layer, Given, Graded}
+use Rattle.bounds.specs.Graded.{Even, Layer, Given, Graded}
 
--- a step leads to a place around
-module _ (d : Sheet) (mask x : List ℕ) (masked : MaskOf d mask) (even : Even x mask (d .width + 2) ((d .width + 2) * (d .height + 1))) (v : ℕ) (on : v < area d) where
-  -- the number of u, on the padded grid
-  abbrev num : ℕ → ℕ
-  num u = getD x (padOf (d .width) u) 0
-
-  -- the number that the way y leads to
-  around : T (free d v) → (y : ℕ) → y < 5 → T (hasBy d v y) → num (placeBy d v y) ≤ suc (num v)
-  around f y l h = rw (leads d v on y l h .padded) (go y l)
-    where
-      p : ℕ
-      p = padOf (d .width) v
-
-      most : mostAround x (d .width + 2) p ≤ suc (num v)
-      most = even p (pad-least d v on) (pad-most d v on) (rw (masked .inside v on) (omega (arith, shade-gate d v .lets f)))
-
-      at : (q r : ℕ) → q ≡ r → getD x r 0 ≤ suc (num v) → getD x q 0 ≤ suc (num v)
-      at q r e k = rw e k
-
-      go : (y : ℕ) → y < 5 → getD x (moveBy (d .width + 2) p y) 0 ≤ suc (num v)
-      go zero l = at _ (p - (d .width + 2)) (omega arith) (omega (arith, most))
-      go (suc zero) l = at _ (p - 1) (omega arith) (omega (arith, most))
-      go (suc (suc zero)) l = at _ p (omega arith) (omega arith)
-      go (suc (suc (suc zero))) l = at _ (p + 1) (omega arith) (omega (arith, most))
-      go (suc (suc (suc (suc zero)))) l = at _ (p + (d .width + 2)) (omega arith) (omega (arith, most))
-      go (suc (suc (suc (suc (suc y))))) l = absurd (omega arith)
-
+-- a step from u to v goes by a way by which u may be left; from v the way back leads to u
 pub layer-step : (d : Sheet) (mask x : List ℕ) → MaskOf d mask → Even x mask (d .width + 2) ((d .width + 2) * (d .height + 1)) → (u v : ℕ) → T (stepFree d u v)
     → getD x (padOf (d .width) u) 0 ≤ suc (getD x (padOf (d .width) v) 0)
-layer-step d mask x m e u v h =
+layer-step d mask x m even u v h =
     let r = step-free-meant d u v .fact h in
-    let w = step-way d u v (r .0 .on-grid) h .0 in
-    let k = leads d u (r .0 .on-grid) (w .by) (w .within) (w .has) in
-    subst (λ (y : ℕ). getD x (padOf (d .width) y) 0 ≤ suc (getD x (padOf (d .width) v) 0)) (subst (λ (y : ℕ). placeBy d y (wayBack (w .by)) ≡ u) (sym (w .to)) (k .back))
-    (around d mask x m e v (r .1 .0 .on-grid) (free-meant d v .test (r .1 .0)) (wayBack (w .by)) (omega arith) (subst (λ (y : ℕ). T (hasBy d y (wayBack (w .by)))) (sym (w .to)) (k .has-back)))
+    let on = r .0 .on-grid in
+    let s = step-way d u v on h in
+    let y : ℕ = s .0 .by in
+    let within : y < 5 = s .0 .within in
+    let k = leads d u on y within (s .0 .has) in
+    let q : ℕ = placeBy d u y in
+    let back : moveBy (d .width + 2) (padOf (d .width) q) (wayBack y) ≡ padOf (d .width) u =
+    sym (leads d q (k .inside) (wayBack y) (omega arith) (k .has-back) .padded) ∙ ap (padOf (d .width)) (k .back) in
+    let twice : wayBack (wayBack y) ≡ y = omega arith in
+    let free-u : T (free d u) = free-meant d u .test (r .0) in
+    let free-q : T (free d q) = subst (λ (z : ℕ). T (free d z)) (s .0 .to) (free-meant d v .test (r .1 .0)) in
+    let opened : T (opensBy (getD mask (moveBy (d .width + 2) (padOf (d .width) q) (wayBack y)) 0) (wayBack (wayBack y))) =
+    rw (back, twice, m .inside u on, opens-shade d u y within) (and-both (free d u) (leaves d u y) free-u (s .1)) in
+    subst (λ (z : ℕ). getD x (padOf (d .width) u) 0 ≤ suc (getD x (padOf (d .width) z) 0)) (sym (s .0 .to))
+    (subst (λ (z : ℕ). getD x z 0 ≤ suc (getD x (padOf (d .width) q) 0)) back
+    (even (padOf (d .width) q) (wayBack y) (pad-least d q (k .inside)) (pad-most d q (k .inside))
+    (rw (m .inside q (k .inside)) (omega (arith, shade-gate d q .lets free-q))) (omega arith) opened))
 
 -- the bounds of a label stand in the table from `at` on, at most `base` on the goal g; what lies after them is as it was
 pub record Level (d : Sheet) (at g base : ℕ) (before after : List ℕ) : Type 0 where

@@ -1,5 +1,5 @@
 -- What is tested of the bounds: they fall by at most one with each step, and not at all where a goal is visited. Assumes nothing.
-use Prim.Native.Nat.{ℕ, suc, _+_, _-_, _*_, _≤_, _<_, max}
+use Prim.Native.Nat.{ℕ, suc, _+_, _*_, _≤_, _<_}
 use mathlib.Core.Path.{_≡_}
 use mathlib.Core.List.{List}
 use lib.ListN.{length, getD}
@@ -8,14 +8,13 @@ use Rattle.deck.specs.Sheet.{Sheet, read, goalsOf, lastGoal, countOf, cause}
 use Rattle.deck.specs.declared.Task.{Task}
 use Rattle.kernel.specs.Parts.{stepFree}
 use Rattle.bars.specs.Padded.{MaskOf}
+use Rattle.bars.specs.Ways.{moveBy, wayBack, opensBy}
 
--- the greatest number around a padded place: above, left, right, below
-abbrev pub mostAround : List ℕ → ℕ → ℕ → ℕ
-mostAround x wide p = max (max (getD x (p - wide) 0) (getD x (p - 1) 0)) (max (getD x (p + 1) 0) (getD x (p + wide) 0))
-
--- around each free place of the padded places from `wide` to end - 1 no number is greater by more than one
+-- for each free place p of the padded places from `wide` to end - 1: at a place around it, by the way y, that may be left to p the
+-- number is greater by at most one
 abbrev pub Even : List ℕ → List ℕ → ℕ → ℕ → Type 0
-Even x mask wide end = (p : ℕ) → wide ≤ p → p < end → 0 < getD mask p 0 → mostAround x wide p ≤ suc (getD x p 0)
+Even x mask wide end =
+    (p y : ℕ) → wide ≤ p → p < end → 0 < getD mask p 0 → y < 5 → T (opensBy (getD mask (moveBy wide p y) 0) (wayBack y)) → getD x (moveBy wide p y) 0 ≤ suc (getD x p 0)
 
 -- bounds of one label on the padded grid, at most `base` on its goal
 pub record Layer (mask : List ℕ) (w h goal base : ℕ) (x : List ℕ) : Type 0 where

@@ -2,9 +2,10 @@
 // is proved of the search. Its distances are tested, and the bounds of a label that failed the test would be 0.
 use deck::Task;
 ghost use mathlib.Core.Path.{_≡_};
-ghost use mathlib.Core.Bool.{true};
-ghost use Prim.Native.Nat.{suc, _+_, _-_, _*_, _<_, _≤_, max, min};
+ghost use mathlib.Core.Bool.{true, cond};
+ghost use Prim.Native.Nat.{suc, _+_, _-_, _*_, _/_, _%_, _<_, _≤_, max, min};
 ghost use lib.ListN.{length, getD};
+ghost use lib.Dec.{eqb};
 ghost use Rattle.deck.specs.Sheet.{read, countOf, goalsOf, cause};
 ghost use Rattle.bars.specs.Padded.{padOf, MaskOf};
 ghost use Rattle.layers.specs.Fill.{Filled};
@@ -22,12 +23,24 @@ fn one_more(d: u8) -> u8 {
     if d < 255 { d + 1 } else { d }
 }
 
-// Gives the padded place q the distance d, where it has a greater one, and puts it into the queue. A blocked place has 0.
-fn mark(dist: &mut [u8; 1156], queue: &mut [u16; 1024], tail: usize, q: usize, d: u8) -> usize
-    requires { ⌜ (tail ≤ 1024) × (q < 1156) ⌝ }
+// Gives the padded place q the distance d, where it has a greater one and may be left by the way x, and puts it into the queue. A
+// blocked place has 0.
+fn mark(
+    mask: &[u8; 1156],
+    dist: &mut [u8; 1156],
+    queue: &mut [u16; 1024],
+    tail: usize,
+    q: usize,
+    x: usize,
+    d: u8,
+) -> usize
+    requires { ⌜ (tail ≤ 1024) × (q < 1156) × (x < 5) ⌝ }
     ensures { λ r. ⌜ r ≤ 1024 ⌝ }
 {
     if dist[q] <= d {
+        return tail;
+    }
+    if !bars::opens(mask[q], x) {
         return tail;
     }
     if 1024 <= tail {
@@ -38,8 +51,9 @@ fn mark(dist: &mut [u8; 1156], queue: &mut [u16; 1024], tail: usize, q: usize, d
     tail + 1
 }
 
-// Marks the places around p.
+// Marks the places around p from which a step leads to p.
 fn visit(
+    mask: &[u8; 1156],
     dist: &mut [u8; 1156],
     queue: &mut [u16; 1024],
     tail: usize,
@@ -56,17 +70,34 @@ fn visit(
         return tail;
     }
     let d = one_more(dist[p]);
-    let a = mark(dist, queue, tail, p - wide, d);
-    let b = mark(dist, queue, a, p - 1, d);
-    let c = mark(dist, queue, b, p + 1, d);
-    mark(dist, queue, c, p + wide, d)
+    let a = mark(mask, dist, queue, tail, p - wide, 4, d);
+    let b = mark(mask, dist, queue, a, p - 1, 3, d);
+    let c = mark(mask, dist, queue, b, p + 1, 1, d);
+    mark(mask, dist, queue, c, p + wide, 0, d)
+}
+
+// 255 for a free place, 0 for a blocked one.
+fn unmarked(m: u8) -> u8 {
+    if m == 0 { 0 } else { 255 }
+}
+
+// The distances before any place is marked, on the padded places below `end`: one loop without branches, which the compiler turns into
+// vector code.
+fn none_marked(mask: &[u8; 1156], end: usize) -> [u8; 1156]
+    requires { ⌜ end ≤ 1122 ⌝ }
+{
+    let mut dist = [0u8; 1156];
+    for p in 0..end {
+        dist[p] = unmarked(mask[p]);
+    }
+    dist
 }
 
 // The distances to the goal, counted from `base` on: 255 for 255 and more, 0 at a blocked place.
-fn distances(mask: &[u8; 1156], wide: usize, goal: usize, base: u8) -> [u8; 1156]
-    requires { ⌜ (1 ≤ wide) × (wide ≤ 34) × (goal < 1156) ⌝ }
+fn distances(mask: &[u8; 1156], wide: usize, end: usize, goal: usize, base: u8) -> [u8; 1156]
+    requires { ⌜ (1 ≤ wide) × (wide ≤ 34) × (end ≤ 1122) × (goal < 1156) ⌝ }
 {
-    let mut dist = *mask;
+    let mut dist = none_marked(mask, end);
     let mut queue = [0u16; 1024];
     dist[goal] = base;
     queue[0] = goal as u16;
@@ -74,7 +105,7 @@ fn distances(mask: &[u8; 1156], wide: usize, goal: usize, base: u8) -> [u8; 1156
     let mut tail = 1;
     while head < tail {
         let p = wide16(queue[head]);
-        tail = visit(&mut dist, &mut queue, tail, p, wide);
+        tail = visit(mask, &mut dist, &mut queue, tail, p, wide);
         head = head + 1;
     }
     dist
@@ -99,19 +130,70 @@ fn excess(a: u8, b: u8) -> u8
     if b < a { a - b - 1 } else { 0 }
 }
 
-// The test: one loop without branches, which the compiler turns into vector code.
+// By how much the greatest of the four numbers around a place with the number d is above d + 1, as far as its byte m of the mask
+// allows: 0 at a blocked place.
+fn over(a: u8, b: u8, c: u8, e: u8, d: u8, m: u8) -> u8
+    ensures { λ r. ⌜ r ≡ min (max (max a b) (max c e) - suc d) m ⌝ }
+{
+    smaller(excess(larger(larger(a, b), larger(c, e)), d), m)
+}
+
+// The most by which the numbers around a free place are too great, lanes left out of account: one loop without branches, which the
+// compiler turns into vector code.
+fn most_over(dist: &[u8; 1156], mask: &[u8; 1156], wide: usize, end: usize) -> u8
+    requires { ⌜ (1 ≤ wide) × (wide ≤ 34) × (wide ≤ end) × (end ≤ 1122) ⌝ }
+    ensures { λ r. ⌜ (r ≡ 0 → Even (now (dist .entry)) (now (mask .entry)) wide end) ⌝ }
+{
+    let mut worst = 0u8;
+    for p in wide..end {
+        let o = over(
+            dist[p - wide],
+            dist[p - 1],
+            dist[p + 1],
+            dist[p + wide],
+            dist[p],
+            mask[p],
+        );
+        worst = larger(worst, o);
+    }
+    worst
+}
+
+// The number d of a place with the byte m of the mask, where the place may be left by the way of the bit, else 0.
+fn if_left(d: u8, m: u8, bit: u8) -> u8
+    requires { ⌜ 1 ≤ bit ⌝ }
+    ensures { λ r. ⌜ r ≡ cond (eqb (m / bit % 2) 1) d 0 ⌝ }
+{
+    if m / bit % 2 == 1 { d } else { 0 }
+}
+
+// The same, only of places that may be left to the place: such a loop again.
+fn most_over_lanes(dist: &[u8; 1156], mask: &[u8; 1156], wide: usize, end: usize) -> u8
+    requires { ⌜ (1 ≤ wide) × (wide ≤ 34) × (wide ≤ end) × (end ≤ 1122) ⌝ }
+    ensures { λ r. ⌜ (r ≡ 0 → Even (now (dist .entry)) (now (mask .entry)) wide end) ⌝ }
+{
+    let mut worst = 0u8;
+    for p in wide..end {
+        let a = if_left(dist[p - wide], mask[p - wide], 16);
+        let b = if_left(dist[p - 1], mask[p - 1], 8);
+        let c = if_left(dist[p + 1], mask[p + 1], 2);
+        let e = if_left(dist[p + wide], mask[p + wide], 1);
+        let o = over(a, b, c, e, dist[p], mask[p]);
+        worst = larger(worst, o);
+    }
+    worst
+}
+
+// The test. Without lanes the first part of it is enough.
 fn even(dist: &[u8; 1156], mask: &[u8; 1156], wide: usize, end: usize) -> bool
     requires { ⌜ (1 ≤ wide) × (wide ≤ 34) × (wide ≤ end) × (end ≤ 1122) ⌝ }
     ensures { λ r. ⌜ (r ≡ true → Even (now (dist .entry)) (now (mask .entry)) wide end) ⌝ }
 {
-    let mut worst = 0u8;
-    for p in wide..end {
-        let a = larger(dist[p - wide], dist[p - 1]);
-        let b = larger(dist[p + 1], dist[p + wide]);
-        let over = smaller(excess(larger(a, b), dist[p]), mask[p]);
-        worst = larger(worst, over);
+    let worst = most_over(dist, mask, wide, end);
+    if worst == 0 {
+        return true;
     }
-    worst == 0
+    most_over_lanes(dist, mask, wide, end) == 0
 }
 
 // The bounds of one label on the padded grid: the steps to its goal, and `base` more.
@@ -119,11 +201,12 @@ fn layer(mask: &[u8; 1156], w: usize, h: usize, goal: usize, base: u8) -> [u8; 1
     requires { ⌜ (1 ≤ w) × (w ≤ 32) × (1 ≤ h) × (h ≤ 32) × (goal < 1156) ⌝ }
     ensures { λ r. ⌜ Layer (now (mask .entry)) w h goal base r ⌝ }
 {
-    let dist = distances(mask, w + 2, goal, base);
+    let end = (w + 2) * (h + 1);
+    let dist = distances(mask, w + 2, end, goal, base);
     if base < dist[goal] {
         return [0u8; 1156];
     }
-    if even(&dist, mask, w + 2, (w + 2) * (h + 1)) {
+    if even(&dist, mask, w + 2, end) {
         return dist;
     }
     [0u8; 1156]

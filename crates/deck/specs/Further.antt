@@ -102,8 +102,8 @@ causes =
     -- a cause before the later ones that hold too
     (askCause (33 ∷ []) gives 1 ∷ [])
     ∷ (askCause (33 ∷ 1 ∷ 1 ∷ 0 ∷ 1 ∷ 0 ∷ 0 ∷ 0 ∷ []) gives 2 ∷ [])
-    ∷ (askCause (sheetOn (2 ∷ 0 ∷ 0 ∷ []) 2 1 0 1 (5 ∷ 5 ∷ []) ((5 ∷ []) ∷ (5 ∷ []) ∷ [])) gives 3 ∷ [])
-    ∷ (askCause (sheetOn (2 ∷ 0 ∷ []) 2 1 0 1 (5 ∷ 5 ∷ []) ((5 ∷ []) ∷ (5 ∷ []) ∷ [])) gives 4 ∷ [])
+    ∷ (askCause (sheetOn (6 ∷ 0 ∷ 0 ∷ []) 2 1 0 1 (5 ∷ 5 ∷ []) ((5 ∷ []) ∷ (5 ∷ []) ∷ [])) gives 3 ∷ [])
+    ∷ (askCause (sheetOn (6 ∷ 0 ∷ []) 2 1 0 1 (5 ∷ 5 ∷ []) ((5 ∷ []) ∷ (5 ∷ []) ∷ [])) gives 4 ∷ [])
     ∷ (askCause (sheet 2 1 0 1 (0 ∷ 0 ∷ []) ((5 ∷ []) ∷ (5 ∷ []) ∷ [])) gives 5 ∷ [])
     ∷ (askCause (sheet 3 1 0 1 (0 ∷ 1 ∷ 2 ∷ []) ((1 ∷ []) ∷ (1 ∷ []) ∷ (7 ∷ []) ∷ [])) gives 6 ∷ [])
     ∷ (askCause (sheet 3 1 0 1 (0 ∷ 1 ∷ 2 ∷ []) ((1 ∷ []) ∷ (2 ∷ []) ∷ (1 ∷ []) ∷ [])) gives 7 ∷ [])

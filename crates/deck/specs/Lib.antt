@@ -13,3 +13,4 @@ pub mod Listing
 pub mod Rounds
 pub mod Starred
 pub mod Further
+pub mod Lanes

@@ -1,11 +1,12 @@
--- Document 01, "Path and plan" as far as one carrier goes, and "One carrier's least path". Assumes nothing.
+-- Document 01, "Path and plan" as far as one carrier goes, and "One carrier's least path"; document 02, "One-way lanes". Assumes
+-- nothing.
 use Prim.Native.Nat.{ℕ, zero, suc, _/_, _%_}
-use mathlib.Core.Bool.{Bool, _&&_, _||_, not, cond}
+use mathlib.Core.Bool.{Bool, true, _&&_, _||_, not, cond}
 use mathlib.Core.List.{List, [], _∷_, map}
 use mathlib.Core.Option.{Option, none, some}
 use lib.Dec.{leb, eqb}
 use Rattle.deck.specs.Lists.{_at_, below, all, select, each, takeLeast, isNil}
-use Rattle.deck.specs.Sheet.{Sheet, area, free, startOf, goalsOf, lastGoal}
+use Rattle.deck.specs.Sheet.{Sheet, area, gridByte, free, startOf, goalsOf, lastGoal}
 use Rattle.deck.specs.declared.Carrier.{Carrier}
 use Rattle.deck.specs.declared.Task.{Task}
 use Rattle.deck.specs.declared.Constraint.{Constraint}
@@ -19,9 +20,19 @@ oneApart a b = eqb (suc a) b || eqb (suc b) a
 unfoldable pub nextTo : ℕ → ℕ → ℕ → Bool
 nextTo w u v = (eqb (u / w) (v / w) && oneApart (u % w) (v % w)) || (eqb (u % w) (v % w) && oneApart (u / w) (v / w))
 
--- v is "beside" u on the sheet, seen from u: what a step from u to v asks of the grid, but for v being free
+-- a place u with the grid byte b "may be left only to the north (place − w), east, south or west": by row and column, since on a grid
+-- of width 1 the place − 1 lies to the north. Asked of a place v next to u
+unfoldable pub mayLeave : ℕ → ℕ → ℕ → ℕ → Bool
+mayLeave w b u v =
+    cond (eqb b 2) (eqb (suc (v / w)) (u / w))
+    (cond (eqb b 3) (eqb (v % w) (suc (u % w)))
+    (cond (eqb b 4) (eqb (v / w) (suc (u / w)))
+    (cond (eqb b 5) (eqb (suc (v % w)) (u % w))
+    true)))
+
+-- v is "beside" u on the sheet, seen from u: next to it, and u may be left to it. "no longer the same seen from either place"
 unfoldable pub beside : Sheet → ℕ → ℕ → Bool
-beside d u v = nextTo (d .width) u v
+beside d u v = nextTo (d .width) u v && mayLeave (d .width) (gridByte d u) u v
 
 -- "Each step waits or goes to a free place beside it": the one name for whether a step may go from u to v
 unfoldable pub mayStep : Sheet → ℕ → ℕ → Bool

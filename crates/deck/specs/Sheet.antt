@@ -1,6 +1,6 @@
 -- Document 01, "The job sheet", and causes 1 to 7 of "When the planner declines". Assumes nothing.
 use Prim.Native.Nat.{ℕ, zero, suc, _+_, _*_, _%_}
-use mathlib.Core.Bool.{Bool, _&&_, cond}
+use mathlib.Core.Bool.{Bool, _&&_, not, cond}
 use mathlib.Core.List.{List, [], _∷_, map}
 use lib.ListN.{length, getD, take, drop}
 use lib.Dec.{ltb, leb, eqb}
@@ -109,9 +109,14 @@ read s =
 abbrev pub area : Sheet → ℕ
 area d = d .width * d .height
 
--- a place of the grid that is not blocked: "0 free, 1 blocked"
+-- the grid byte of a place: "0 free, 1 blocked", and 2 to 5 for "a free place that may be left only to the north (place − w), east,
+-- south or west"
+abbrev pub gridByte : Sheet → ℕ → ℕ
+gridByte d v = getD (d .grid) v 0
+
+-- a place of the grid that is not blocked
 abbrev pub free : Sheet → ℕ → Bool
-free d v = ltb v (area d) && eqb (getD (d .grid) v 0) 0
+free d v = ltb v (area d) && not (eqb (gridByte d v) 1)
 
 abbrev pub startOf : Sheet → Carrier → ℕ
 startOf d i = getD (d .starts) (i .0) 0
@@ -159,9 +164,9 @@ goodDirectory s =
     && eqb (startsStretch s .size) (2 * countOf s)
     && all (λ j. goalsSize (taskStretch s (task j) .size)) (below (countOf s))
 
--- "grid byte above 1"
+-- "Cause 4 now means a byte above 5"
 unfoldable pub goodGrid : Sheet → Bool
-goodGrid d = all (λ b. leb b 1) (d .grid)
+goodGrid d = all (λ b. leb b 5) (d .grid)
 
 -- "start off grid, blocked or shared"
 unfoldable pub goodStarts : Sheet → Bool

@@ -1,5 +1,5 @@
 -- The backward pass of one task without constraints: what its calls ask, its layers, and its column. Assumes nothing.
-use Prim.Native.Nat.{ℕ, suc, _+_, _-_, _≤_, _<_}
+use Prim.Native.Nat.{ℕ, suc, _+_, _-_, _*_, _≤_, _<_}
 use mathlib.Core.Path.{_≡_, sym, ap, _∙_, subst}
 use mathlib.Core.Logic.{⊎-elim}
 use mathlib.Core.Bool.{true}
@@ -23,7 +23,8 @@ use Rattle.bars.specs.Bars.{countIn, OnLayer, Chained}
 use Rattle.bars.proofs.Grid.{pad-most, size-of, size-small}
 use Rattle.layers.specs.Fill.{Filled}
 use Rattle.layers.specs.Raise.{Indexes}
-use Rattle.layers.specs.Step.{Margin, Stepped, Seeded}
+use Rattle.layers.specs.Step.{Margin, Doors, Stepped, Seeded}
+use Rattle.layers.proofs.Gating.{rows-range}
 use Rattle.layers.proofs.Stepping.{holds-margin}
 use Rattle.passes.specs.Ready.{Ready, Goals, Turned}
 use Rattle.passes.proofs.Turning.{reverse-at, goals-index, turned-goals}
@@ -53,6 +54,10 @@ module _ (s : List ℕ) (ok : cause s ≡ 0) (j : Task) where
       let w = width-range s ok in
       let k = height-range s ok in
       omega (arith, pad-most d v h, size-of (d .width) (d .height), size-small (d .width) (d .height) (w .1) (k .1))
+
+  -- the rows in use
+  pub rows-of : (w h : ℕ) → w ≡ d .width → h ≡ d .height → (1 ≤ w + 2) × (w + 2 ≤ 34) × (w + 2 ≤ (w + 2) * (h + 1)) × ((w + 2) * (h + 1) ≤ 1122)
+  rows-of w h ew eh = rows-range w h (omega (arith, width-range s ok)) (omega (arith, height-range s ok))
 
   pub turned-index : (n : ℕ) → n ≡ length (goalsOf d j) → (goals : List ℕ) → Turned s j goals → Indexes goals n
   turned-index n e goals g = goals-index (d .width) (reverse (goalsOf d j)) goals n (rw e g)
@@ -85,11 +90,12 @@ module _ (s : List ℕ) (ok : cause s ≡ 0) (j : Task) where
     ready = record { accepted = ok; carrier-in = omega (arith, count-range s ok); task-in = b; masked = masked; records = no-records d }
 
     -- what a step asks
-    pub step-wants : (w h n : ℕ) → w ≡ d .width → h ≡ d .height → n ≡ length (goalsOf d j) → (goals : List ℕ) → Turned s j goals → (links dst : List ℕ) → length dst ≡ 1156
+    pub step-wants : (w h n : ℕ) → w ≡ d .width → h ≡ d .height → n ≡ length (goalsOf d j) → (goals : List ℕ) → Turned s j goals → (doors : List ℕ)
+        → Doors mask (d .width) (d .height) true doors → (links dst : List ℕ) → length dst ≡ 1156
         → (1 ≤ w) × (w ≤ 32) × (1 ≤ h) × (h ≤ 32) × (0 < 256) × (0 < 256) × (countIn [] ≤ 4096) × OnLayer w [] × Chained [] 0 (replicate 256 0) links × (n ≤ 8)
-        × Indexes goals n × (length dst ≡ 1156)
-    step-wants w h n ew eh en goals g links dst e =
-        step-asks s (carrier 0) j mask [] ready w n ew en goals h eh 0 0 (omega arith) (omega arith) (chained-none 0 links) (turned-index n en goals g) dst e
+        × Indexes goals n × Doors mask w h true doors × (length dst ≡ 1156)
+    step-wants w h n ew eh en goals g doors given links dst e =
+        step-asks s (carrier 0) j mask [] ready w n ew en goals h eh 0 0 (omega arith) (omega arith) (chained-none 0 links) (turned-index n en goals g) true doors given dst e
 
     -- the layer of one step more
     pub stepped-steps : (w h n : ℕ) → w ≡ d .width → h ≡ d .height → n ≡ length (goalsOf d j) → (goals : List ℕ) → Turned s j goals → {src before after : List ℕ}

@@ -2,7 +2,7 @@
 use Prim.Native.Nat.{ℕ, _≤_, _<_}
 use mathlib.Core.Path.{_≡_}
 use mathlib.Core.Logic.{_≢_}
-use mathlib.Core.Bool.{cond, _&&_}
+use mathlib.Core.Bool.{true, cond, _&&_}
 use mathlib.Core.List.{List, []}
 use lib.ListN.{getD}
 use lib.Dec.{eqb, ltb}
@@ -13,7 +13,7 @@ use Rattle.deck.specs.declared.Task.{Task}
 use Rattle.kernel.specs.Labels.{allGoals}
 use Rattle.kernel.specs.Kernel.{hind}
 use Rattle.bars.specs.Padded.{padOf, Holds, MaskOf}
-use Rattle.layers.specs.Step.{Margin}
+use Rattle.layers.specs.Step.{Doors, Margin}
 use Rattle.passes.specs.Ready.{Turned}
 
 -- the entry for the carrier i and the task j
@@ -50,10 +50,11 @@ abbrev pub Whole : Sheet → Task → List ℕ → Type 0
 Whole d j column = (i : ℕ) → i < d .count → getD column i 0 ≡ entryFor d i j
 
 -- what the pass of one task is given
-pub record Serves (s : List ℕ) (j : Task) (mask starts goals : List ℕ) : Type 0 where
+pub record Serves (s : List ℕ) (j : Task) (mask doors starts goals : List ℕ) : Type 0 where
   pub accepted : cause s ≡ 0
   pub task-in : j .0 < countOf s
   pub masked : MaskOf (read s) mask
+  pub given : Doors mask (read s .width) (read s .height) true doors
   pub begins : Starts s starts
   pub turned : Turned s j goals
 

@@ -12,7 +12,7 @@ ghost use Rattle.deck.specs.Sheet.{read, countOf, cause, task};
 ghost use Rattle.deck.specs.Assignments.{barred, tableOf};
 ghost use Rattle.bars.specs.Padded.{Holds, MaskOf};
 ghost use Rattle.layers.specs.Fill.{Filled};
-ghost use Rattle.layers.specs.Step.{Margin};
+ghost use Rattle.layers.specs.Step.{Doors, Margin};
 ghost use Rattle.passes.specs.Ready.{Turned};
 ghost use Rattle.prices.specs.Square.{cell, copied};
 ghost use Rattle.finishes.specs.Entries.{Starts, steps, marked as markedWith, Whole, Serves, Passing};
@@ -141,11 +141,12 @@ fn next_layer(
     s: &[u8],
     j: Task,
     mask: &[u8; 1156],
+    doors: &[u8],
     goals: &[usize; 8],
     src: &[u8; 1156],
     dst: &mut [u8; 1156],
 )
-    requires { ⌜ (cause (now s) ≡ 0) × (j .0 < countOf (now s)) × MaskOf (read (now s)) (now mask) × Turned (now s) j (now goals) × (length (now dst) ≡ 1156) ⌝ }
+    requires { ⌜ (cause (now s) ≡ 0) × (j .0 < countOf (now s)) × MaskOf (read (now s)) (now mask) × Turned (now s) j (now goals) × Doors (now mask) (read (now s) .width) (read (now s) .height) true (now doors) × (length (now dst) ≡ 1156) ⌝ }
     ensures { λ _. ⌜ ((k : ℕ) → Holds (read (now (s .entry))) (now (src .entry)) (steps (read (now (s .entry))) j k) → Margin (read (now (s .entry)) .width) (read (now (s .entry)) .height) (now (dst .entry)) → Holds (read (now (s .entry))) (now (dst .exit)) (steps (read (now (s .entry))) j (suc k))) ⌝ }
 {
     let w = sheet::width(s);
@@ -156,6 +157,7 @@ fn next_layer(
     let links = [0u32; 1];
     layers::step(
         mask,
+        doors,
         w,
         h,
         &none[..0],
@@ -178,6 +180,7 @@ fn ends(
     s: &[u8],
     j: Task,
     mask: &[u8; 1156],
+    doors: &[u8],
     starts: &[usize; 12],
     goals: &[usize; 8],
     k: usize,
@@ -185,7 +188,7 @@ fn ends(
     dst: &mut [u8; 1156],
     column: &mut [u16; 12],
 ) -> bool
-    requires { ⌜ Serves (now s) j (now mask) (now starts) (now goals) × Passing (now s) j k (now src) (now dst) (now column) × (length (now column) ≡ 12) ⌝ }
+    requires { ⌜ Serves (now s) j (now mask) (now doors) (now starts) (now goals) × Passing (now s) j k (now src) (now dst) (now column) × (length (now column) ≡ 12) ⌝ }
     ensures { λ r. ⌜ (r ≡ true → Whole (read (now (s .entry))) j (now (column .exit))) × (r ≡ false → Passing (now (s .entry)) j (k + 1) (now (dst .exit)) (now (src .entry)) (now (column .exit))) × (length (now (column .exit)) ≡ 12) ⌝ }
 {
     let n = sheet::goal_count(s, j);
@@ -195,13 +198,13 @@ fn ends(
     if k == sheet::horizon(s) {
         return true;
     }
-    next_layer(s, j, mask, goals, src, dst);
+    next_layer(s, j, mask, doors, goals, src, dst);
     false
 }
 
-// The column of the task j.
-fn column(s: &[u8], j: Task, mask: &[u8; 1156], starts: &[usize; 12]) -> [u16; 12]
-    requires { ⌜ (cause (now s) ≡ 0) × (j .0 < countOf (now s)) × MaskOf (read (now s)) (now mask) × Starts (now s) (now starts) ⌝ }
+// The column of the task j over the ways with these doors.
+fn column_by(s: &[u8], j: Task, mask: &[u8; 1156], doors: &[u8], starts: &[usize; 12]) -> [u16; 12]
+    requires { ⌜ (cause (now s) ≡ 0) × (j .0 < countOf (now s)) × MaskOf (read (now s)) (now mask) × Starts (now s) (now starts) × Doors (now mask) (read (now s) .width) (read (now s) .height) true (now doors) ⌝ }
     ensures { λ r. ⌜ Whole (read (now (s .entry))) j r ⌝ }
 {
     let goals = passes::goals_of(s, j);
@@ -211,14 +214,51 @@ fn column(s: &[u8], j: Task, mask: &[u8; 1156], starts: &[usize; 12]) -> [u16; 1
     let mut entries = [BARRED; 12];
     let mut k = 0;
     loop {
-        if ends(s, j, mask, starts, &turned, k, &a, &mut b, &mut entries) {
+        if ends(
+            s,
+            j,
+            mask,
+            doors,
+            starts,
+            &turned,
+            k,
+            &a,
+            &mut b,
+            &mut entries,
+        ) {
             return entries;
         }
-        if ends(s, j, mask, starts, &turned, k + 1, &b, &mut a, &mut entries) {
+        if ends(
+            s,
+            j,
+            mask,
+            doors,
+            starts,
+            &turned,
+            k + 1,
+            &b,
+            &mut a,
+            &mut entries,
+        ) {
             return entries;
         }
         k = k + 2;
     }
+}
+
+// The column of the task j.
+fn column(s: &[u8], j: Task, mask: &[u8; 1156], starts: &[usize; 12]) -> [u16; 12]
+    requires { ⌜ (cause (now s) ≡ 0) × (j .0 < countOf (now s)) × MaskOf (read (now s)) (now mask) × Starts (now s) (now starts) ⌝ }
+    ensures { λ r. ⌜ Whole (read (now (s .entry))) j r ⌝ }
+{
+    let wide = sheet::width(s) + 2;
+    let end = wide * (sheet::height(s) + 1);
+    if layers::plain(mask, wide, end) {
+        let none = [0u8; 1];
+        return column_by(s, j, mask, &none[..0], starts);
+    }
+    let doors = layers::doors(mask, wide, end, true);
+    column_by(s, j, mask, &doors, starts)
 }
 
 // Puts the column of the task j into a table of twelve to a row.

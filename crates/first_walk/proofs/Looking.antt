@@ -13,6 +13,7 @@ use Rattle.deck.specs.Sheet.{Sheet, read, area, free, goalsOf}
 use Rattle.deck.specs.Calls.{constraintsOf}
 use Rattle.deck.specs.declared.Carrier.{Carrier}
 use Rattle.deck.specs.declared.Task.{Task}
+use Rattle.meaning.proofs.Tests.{is-true}
 use Rattle.meaning.proofs.Paths.{free-meant}
 use Rattle.sheet.proofs.Accepted.{area-range}
 use Rattle.kernel.specs.Layers.{Parts, pass, back, good}
@@ -22,10 +23,10 @@ use Rattle.kernel.proofs.Both.{and-left, and-right, and-both}
 use Rattle.kernel.proofs.OfTask.{raised-le}
 use Rattle.kernel.proofs.OfSheet.{stands-is, step-free-meant}
 use Rattle.bars.specs.Padded.{padOf, Gate}
-use Rattle.bars.specs.Ways.{turnOf, moveBy, placeBy, hasBy}
-use Rattle.bars.proofs.Gates.{gate-shut, gate-open}
+use Rattle.bars.specs.Ways.{turnOf, moveBy, placeBy, hasBy, leaves, opensBy}
+use Rattle.bars.proofs.Gates.{opens-shade, gate-shut, gate-open}
 use Rattle.bars.proofs.Grid.{pad-most, size-of, size-small}
-use Rattle.bars.proofs.Leads.{turn-most, leads, mask-by, step-by, leaves-any}
+use Rattle.bars.proofs.Leads.{turn-most, leads, mask-by, step-by}
 use Rattle.layers.specs.Raise.{GoalsAt}
 use Rattle.passes.proofs.Given.{wide-one, wide-most, high-most, horizon-most, few-labels}
 use Rattle.trace.specs.Along.{Visited}
@@ -64,7 +65,7 @@ module _ {s : List ℕ} {i : Carrier} {j : Task} {mask goals rs heads links tabl
   pub spot-of : (x r : ℕ) → r ≡ turnOf (l .w + 2) x → p + r - (l .w + 2) ≡ spot x
   spot-of x r e = rw (e, g .wide, o .padded) refl
 
-  pub padded-small : p ≤ 1156
+  pub padded-small : p < 1156
   padded-small =
       omega (arith, o .padded, pad-most d u inside, size-of (d .width) (d .height), size-small (d .width) (d .height) (wide-most (g .ready)) (high-most (g .ready)), wide-most (g .ready), high-most (g .ready))
 
@@ -93,8 +94,11 @@ module _ {s : List ℕ} {i : Carrier} {j : Task} {mask goals rs heads links tabl
   pass-step : (v : ℕ) → T (pass w t u v) → T (stepFree d u v && freeMove i (constraintsOf rs) t u v)
   pass-step v h = and-left (w .step t u v) (w .stand (suc t) v) h
 
+  pass-goes : (v : ℕ) → T (pass w t u v) → T (stepFree d u v)
+  pass-goes v h = and-left (stepFree d u v) (freeMove i (constraintsOf rs) t u v) (pass-step v h)
+
   pass-free : (v : ℕ) → T (pass w t u v) → T (free d v)
-  pass-free v h = free-meant d v .test (step-free-meant d u v .fact (and-left (stepFree d u v) (freeMove i (constraintsOf rs) t u v) (pass-step v h)) .1 .0)
+  pass-free v h = free-meant d v .test (step-free-meant d u v .fact (pass-goes v h) .1 .0)
 
   module _ (x : ℕ) (lx : x < 5) where
     abbrev Closed : Type 0
@@ -108,6 +112,16 @@ module _ {s : List ℕ} {i : Carrier} {j : Task} {mask goals rs heads links tabl
     blocked-way q m e f z h =
         let a = goes-asks x h in
         gate-shut (hasBy d u x && free d (placeBy d u x)) (mask-at q m e f) z (and-both (hasBy d u x) (free d (placeBy d u x)) (a .0) (pass-free (placeBy d u x) (a .1)))
+
+    -- this place may be left by the way x where its byte of the mask says so
+    opens-is : (b : Bool) → b ≡ opensBy (getD mask p 0) x → b ≡ leaves d u x
+    opens-is b e = e ∙ rw (o .padded, g .ready .masked .inside u inside, opens-shade d u x lx, is-true (free d u) (o .on-free)) refl
+
+    -- it may not be left that way
+    pub closed-way : (b : Bool) → b ≡ opensBy (getD mask p 0) x → b ≡ false → Closed
+    closed-way b e z h =
+        let a = goes-asks x h in
+        subst T (sym (opens-is b e) ∙ z) (and-left (leaves d u x) _ (subst T (step-by d u inside x lx (a .0)) (pass-goes (placeBy d u x) (a .1))))
 
     -- the place by the way x is free
     pub record Opens (v q : ℕ) : Type 0 where
@@ -176,12 +190,12 @@ module _ {s : List ℕ} {i : Carrier} {j : Task} {mask goals rs heads links tabl
             (rw (add-one t) (and-right (w .step t u v) (w .stand (suc t) v) a)))
 
         -- the way is open
-        pub clear-way : (b : Bool) → b ≡ (freeMove i (constraintsOf rs) t u v && freePlace i (constraintsOf rs) (t + 1) v) → b ≡ true
+        pub clear-way : (a : Bool) → a ≡ opensBy (getD mask p 0) x → a ≡ true → (b : Bool) → b ≡ (freeMove i (constraintsOf rs) t u v && freePlace i (constraintsOf rs) (t + 1) v) → b ≡ true
             → Seen d i j (constraintsOf rs) (l .end) t u k x (To v q c)
-        clear-way b e y =
+        clear-way a f z b e y =
             let both : T (freeMove i (constraintsOf rs) t u v && stands d i (constraintsOf rs) (t + 1) v) = subst T (sym (sym (lets-stand b e) ∙ y)) tt in
             let free-v : T (free d v) = rw (op .at) (op .is-free) in
-            let step : T (stepFree d u v) = rw (op .at, step-by d u inside x lx (op .has), leaves-any d u x) (and-both (free d u) (free d (placeBy d u x)) (o .on-free) (op .is-free)) in (
+            let step : T (stepFree d u v) = rw (op .at, step-by d u inside x lx (op .has), sym (opens-is a f) ∙ z) (and-both (free d u) (free d (placeBy d u x)) (o .on-free) (op .is-free)) in (
               op .has,
               op .at,
               counted,

@@ -132,7 +132,11 @@ fn look(
         return Ahead::Shut;
     }
     if lets(i, records, heads, links, t, u, v) {
-        Ahead::To { v, q, c }
+        if bars::opens(mask[p], x) {
+            Ahead::To { v, q, c }
+        } else {
+            Ahead::Shut
+        }
     } else {
         Ahead::Shut
     }

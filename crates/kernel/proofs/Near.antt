@@ -34,7 +34,7 @@ wide-of zero h u l = absurd (omega (arith, zero-mul h))
 wide-of (suc w) h u l = omega arith
 
 -- the row and the column of a place one row on
-below-row : (w u : ℕ) → 0 < w → ((u + w) / w ≡ suc (u / w)) × ((u + w) % w ≡ u % w)
+pub below-row : (w u : ℕ) → 0 < w → ((u + w) / w ≡ suc (u / w)) × ((u + w) % w ≡ u % w)
 below-row w u h = (omega (arith, add-div-right u h), add-mod-right u w)
 
 -- the row and the column of the place to the right

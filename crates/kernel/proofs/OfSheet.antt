@@ -79,7 +79,7 @@ step-free-meant d u v = says-and (free-meant d u) (says-and (free-meant d v) (st
 -- a step leads to a place around
 pub step-around : (d : Sheet) (u v : ℕ) → T (stepFree d u v) → Mem v (near d u)
 step-around d u v h = let r = step-free-meant d u v .fact h in
-    ⊎-elim (λ e. subst (λ (x : ℕ). Mem x (near d u)) e (self-near d u)) (λ b. next-near d u v (r .0 .on-grid) (r .1 .0 .on-grid) (b .1)) (r .1 .1)
+    ⊎-elim (λ e. subst (λ (x : ℕ). Mem x (near d u)) e (self-near d u)) (λ b. next-near d u v (r .0 .on-grid) (r .1 .0 .on-grid) (b .1 .0)) (r .1 .1)
 
 -- the time of a constraint lies within the horizon
 abbrev pub InTime : ℕ → Constraint → Type 0
@@ -120,7 +120,7 @@ module _ (d : Sheet) (i : Carrier) (j : Task) (cs : List Constraint) (start : T 
   sheet-laws = record {
     onward = λ t u v h. step-around d u v (and-left (stepFree d u v) (freeMove i cs t u v) h);
     behind = λ t u v h. let r = step-free-meant d u v .fact (and-left (stepFree d u v) (freeMove i cs t u v) h) in
-        ⊎-elim (λ e. subst (λ (x : ℕ). Mem x (w .preds v)) (sym e) (self-near d v)) (λ b. next-near d v u (r .1 .0 .on-grid) (r .0 .on-grid) (next-turned d u v (b .1))) (r .1 .1);
+        ⊎-elim (λ e. subst (λ (x : ℕ). Mem x (w .preds v)) (sym e) (self-near d v)) (λ b. next-near d v u (r .1 .0 .on-grid) (r .0 .on-grid) (next-turned d u v (b .1 .0))) (r .1 .1);
     rising = near-rising d (wide-of (d .width) (d .height) (startOf d i) (start-free .on-grid));
     begun = first-label-le d j i;
     mono = raised-mono d j;

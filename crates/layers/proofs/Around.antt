@@ -49,7 +49,7 @@ module _ (d : Sheet) (ok : ℕ → Bool) (f : ℕ → ℕ) (v : ℕ) (on : v < a
       one n x = best-if ok f (hasBy d v x) (placeBy d v x) (byWays d v n (suc x))
 
 -- the label n that comes by a way through its gate: the place that it comes from is free if b
-pub way-term : (has b g : Bool) (n m : ℕ) → n < 224 → (b ≡ false → n ≡ 0) → (T has → Gate g m) → min (cond has n 0) m ≡ cond (has && (b && g)) n 0
+pub way-term : (has b g : Bool) (n m : ℕ) → n < 224 → (b ≡ false → n ≡ 0) → (T has → T b → Gate g m) → min (cond has n 0) m ≡ cond (has && (b && g)) n 0
 way-term false b g n m l z h = omega arith
 way-term true false g n m l z h = rw (z refl) (omega arith)
-way-term true true g n m l z h = gate-min g n m l (h tt)
+way-term true true g n m l z h = gate-min g n m l (h tt tt)

@@ -16,7 +16,7 @@ use Rattle.layers.specs.Raise.{bumped, raisedBy, Raised}
 use Rattle.layers.specs.Packed.{FourAt, Kept}
 
 -- an index up to p is below p or p
-up-to : (k p : ℕ) → k < p + 1 → (k ≡ p) ⊎ (k < p)
+pub up-to : (k p : ℕ) → k < p + 1 → (k ≡ p) ⊎ (k < p)
 up-to k p h = ⊎-elim (λ e. inl (omega arith)) (λ l. inr (omega arith)) (eq-or-lt-of-le h)
 
 module _ (lo : ℕ) (f : ℕ → ℕ) (before : List ℕ) where
@@ -35,6 +35,9 @@ module _ (lo : ℕ) (f : ℕ → ℕ) (before : List ℕ) where
 
   pub filled-all : {p hi : ℕ} {after : List ℕ} → p ≡ hi → Filled lo p f before after → Filled lo hi f before after
   filled-all {after} e g = subst (λ (k : ℕ). Filled lo k f before after) e g
+
+pub filled-as : {lo hi : ℕ} {f g : ℕ → ℕ} {before after : List ℕ} → ((p : ℕ) → f p ≡ g p) → Filled lo hi f before after → Filled lo hi g before after
+filled-as e fill = record { size = fill .size; inside = λ p a b. fill .inside p a b ∙ e p; below = fill .below; above = fill .above }
 
 module _ (goals before : List ℕ) where
   pub raised-none : Raised goals 0 before before

@@ -5,8 +5,9 @@ use mathlib.Core.Logic.{_⊎_, inl, inr, ⊎-elim}
 use mathlib.Core.Bool.{Bool, true, false, cond, _&&_}
 use mathlib.Core.List.{List}
 use native.Mathlib.Omega.{arith}
-use lib.ListN.{getD}
-use lib.Dec.{T}
+use lib.ListN.{length, getD}
+use lib.Dec.{T, eqb}
+use borrow.Author.Tests.{eqb-true, eqb-false}
 use Rattle.deck.specs.Sheet.{Sheet, area, free}
 use Rattle.deck.specs.declared.Carrier.{Carrier}
 use Rattle.deck.specs.declared.Constraint.{Constraint}
@@ -14,14 +15,13 @@ use Rattle.kernel.specs.Parts.{freeMove, stepFree}
 use Rattle.kernel.proofs.Both.{and-turned}
 use Rattle.kernel.proofs.Choice.{lt-or-ge}
 use Rattle.bars.specs.Padded.{padOf, Border, Holds, shade, MaskOf, Gate}
-use Rattle.bars.specs.Bars.{wayOf, slotOf}
-use Rattle.bars.specs.Ways.{moveBy, placeBy, hasBy, wayBack, leaves}
-use Rattle.bars.proofs.Gates.{shade-gate, gate-if}
+use Rattle.bars.specs.Ways.{moveBy, placeBy, hasBy, wayBack, leaves, opensBy}
+use Rattle.bars.proofs.Gates.{shade-gate, opens-shade, open-leaves, gate-if, gate-shut}
 use Rattle.bars.proofs.Grid.{pad-least, pad-most}
-use Rattle.bars.proofs.Leads.{leads, layer-by, way-by, step-by, step-into, leaves-any}
+use Rattle.bars.proofs.Leads.{leads, layer-by, step-by, step-into}
 use Rattle.layers.specs.Fill.{Filled}
 use Rattle.layers.specs.Spread.{spreadAt, spreadBy}
-use Rattle.layers.specs.Step.{mayGo, around, Labels, Margin}
+use Rattle.layers.specs.Step.{mayGo, around, Labels, Margin, Plain, doorAt, Doors, wayAt}
 use Rattle.layers.proofs.Around.{labelBy, best-near, way-term}
 
 min-max : (a b m : ℕ) → min (max a b) m ≡ max (min a m) (min b m)
@@ -71,7 +71,7 @@ module _ (d : Sheet) (i : Carrier) (cs : List Constraint) (t : ℕ) (back : Bool
   -- five labels with their gates, and the greatest of the layer around v
   module _ (y : List ℕ) (f : ℕ → ℕ) (h : Holds d y f) (labels : Labels d f) (v : ℕ) (on : v < area d) where
     abbrev Through : ℕ → ℕ → Type 0
-    Through x m = T (hasBy d v x) → Gate (mayCome v x) m
+    Through x m = T (hasBy d v x) → T (free d (placeBy d v x)) → Gate (mayCome v x) m
 
     way-is : (x : ℕ) → x < 5 → (p m : ℕ) → p ≡ moveBy (d .width + 2) (padOf (d .width) v) x → Through x m
         → min (getD y p 0) m ≡ labelBy d (mayGo d i cs t back v) f v on x
@@ -84,32 +84,23 @@ module _ (d : Sheet) (i : Carrier) (cs : List Constraint) (t : ℕ) (back : Bool
         and-if true e = e tt
         and-if false e = refl
 
-    module _ (m0 m1 m2 m3 m4 : ℕ) where
-      pub record Gates : Type 0 where
-        pub above : Through 0 m0
-        pub left : Through 1 m1
-        pub same : Through 2 m2
-        pub right : Through 3 m3
-        pub below : Through 4 m4
-
-      pub five : Gates
-          → max
-          (max
-          (max (min (getD y (padOf (d .width) v - (d .width + 2)) 0) m0) (min (getD y (padOf (d .width) v - 1) 0) m1))
-          (max (min (getD y (padOf (d .width) v) 0) m2) (min (getD y (padOf (d .width) v + 1) 0) m3)))
-          (min (getD y (padOf (d .width) v + (d .width + 2)) 0) m4)
-          ≡ around d i cs t back f v
-      five g =
-          ap₂ max
-          (ap₂ max
-          (ap₂ max
-          (way-is 0 (omega arith) (padOf (d .width) v - (d .width + 2)) m0 (omega arith) (g .above))
-          (way-is 1 (omega arith) (padOf (d .width) v - 1) m1 (omega arith) (g .left)))
-          (ap₂ max
-          (way-is 2 (omega arith) (padOf (d .width) v) m2 (omega arith) (g .same))
-          (way-is 3 (omega arith) (padOf (d .width) v + 1) m3 (omega arith) (g .right))))
-          (way-is 4 (omega arith) (padOf (d .width) v + (d .width + 2)) m4 (omega arith) (g .below))
-          ∙ sym (best-near d (mayGo d i cs t back v) f v on)
+    pub five : (m : ℕ → ℕ) → ((x : ℕ) → x < 5 → Through x (m x))
+        → max
+        (max
+        (max (min (getD y (padOf (d .width) v - (d .width + 2)) 0) (m 0)) (min (getD y (padOf (d .width) v - 1) 0) (m 1)))
+        (max (min (getD y (padOf (d .width) v) 0) (m 2)) (min (getD y (padOf (d .width) v + 1) 0) (m 3))))
+        (min (getD y (padOf (d .width) v + (d .width + 2)) 0) (m 4))
+        ≡ around d i cs t back f v
+    five m g =
+        ap₂ max
+        (ap₂ max
+        (ap₂ max (by-way 0 (omega arith) (padOf (d .width) v - (d .width + 2)) (omega arith)) (by-way 1 (omega arith) (padOf (d .width) v - 1) (omega arith)))
+        (ap₂ max (by-way 2 (omega arith) (padOf (d .width) v) (omega arith)) (by-way 3 (omega arith) (padOf (d .width) v + 1) (omega arith))))
+        (by-way 4 (omega arith) (padOf (d .width) v + (d .width + 2)) (omega arith))
+        ∙ sym (best-near d (mayGo d i cs t back v) f v on)
+      where
+        by-way : (x : ℕ) → x < 5 → (p : ℕ) → p ≡ moveBy (d .width + 2) (padOf (d .width) v) x → min (getD y p 0) (m x) ≡ labelBy d (mayGo d i cs t back v) f v on x
+        by-way x l p e = way-is x l p (m x) e (g x l)
 
 -- a padded place outside the rows of the grid, or in them
 outside-or-in : (p a b : ℕ) → ((p < a) ⊎ (b ≤ p)) ⊎ ((a ≤ p) × (p < b))
@@ -145,71 +136,128 @@ five-none : (a l s r b : ℕ) {m0 m1 m2 m3 m4 : ℕ} → m0 ≡ 0 → m1 ≡ 0 �
 five-none a l s r b {m0} {m1} {m2} {m3} {m4} e0 e1 e2 e3 e4 =
     rw (min-zero a m0 e0, min-zero l m1 e1, min-zero s m2 e2, min-zero r m3 e3, min-zero b m4 e4) refl
 
+-- the greatest label of p and the four around it, where the way x has the byte m x p
+abbrev pub spreadOf : List ℕ → (ℕ → ℕ → ℕ) → ℕ → ℕ → ℕ
+spreadOf x m wide p =
+    max
+    (max (max (min (getD x (p - wide) 0) (m 0 p)) (min (getD x (p - 1) 0) (m 1 p))) (max (min (getD x p 0) (m 2 p)) (min (getD x (p + 1) 0) (m 3 p))))
+    (min (getD x (p + wide) 0) (m 4 p))
+
+-- one mask for the five
+pub spread-one : (x mask : List ℕ) (wide p : ℕ) → spreadAt x mask wide p ≡ spreadOf x (λ k q. getD mask q 0) wide p
+spread-one x mask wide p = min-five (getD x (p - wide) 0) (getD x (p - 1) 0) (getD x p 0) (getD x (p + 1) 0) (getD x (p + wide) 0) (getD mask p 0)
+
+-- one for each
+pub spread-each : (x ways : List ℕ) (wide p : ℕ) → spreadBy x ways wide p ≡ spreadOf x (λ k q. getD ways (1156 * k + q) 0) wide p
+spread-each x ways wide p = let e : 1156 * 0 + p ≡ p = omega arith in rw e refl
+
+-- the gate of a way, where the way is open at a free place
+gate-and : (o b : Bool) {m : ℕ} → (T b → T o) → Gate b m → Gate (o && b) m
+gate-and true b h g = g
+gate-and false true h g = absurd (h tt)
+gate-and false false h g = g
+
+-- the gate of a door: the place that is left is free if a, and may be left if o
+gate-door : (a o b : Bool) {m : ℕ} → (T b → T a) → Gate b m → Gate (o && b) (cond (a && o) m 0)
+gate-door true true b h g = g
+gate-door true false b h g = record { lets = λ t. absurd t; shuts = λ n. refl }
+gate-door false o true h g = absurd (h tt)
+gate-door false true false h g = record { lets = λ t. absurd t; shuts = λ n. refl }
+gate-door false false false h g = record { lets = λ t. absurd t; shuts = λ n. refl }
+
+module _ (d : Sheet) (i : Carrier) (cs : List Constraint) (t : ℕ) (back : Bool) (mask : List ℕ) (masked : MaskOf d mask) (v : ℕ) (on : v < area d) where
+  abbrev pad : ℕ
+  pad = padOf (d .width) v
+
+  -- where no place is a lane, the mask's byte of the place serves every way
+  plain-gate : Plain mask (d .width + 2) ((d .width + 2) * (d .height + 1)) → (x : ℕ) → x < 5 → T (hasBy d v x) → T (free d (placeBy d v x))
+      → Gate (opens d i cs t back v x && free d v) (getD mask pad 0)
+  plain-gate plain x l has from = rw (masked .inside v on) (gate-and (opens d i cs t back v x) (free d v) (go back) (shade-gate d v))
+    where
+      leave : (u y : ℕ) → u < area d → y < 5 → T (free d u) → T (leaves d u y)
+      leave u y a b h =
+          let e = masked .inside u a in
+          ⊎-elim (λ z. absurd (gate-shut (free d u) (shade-gate d u) (sym e ∙ z) h)) (λ z. open-leaves d u y b (sym e ∙ z))
+          (plain (padOf (d .width) u) (pad-least d u a) (pad-most d u a))
+
+      go : (b : Bool) → T (free d v) → T (cond b (leaves d v x) (leaves d (placeBy d v x) (wayBack x)))
+      go true h = leave v x on l h
+      go false h = leave (placeBy d v x) (wayBack x) (leads d v on x l has .inside) (omega arith) from
+
+  -- the door of a way
+  door-gate : (x : ℕ) → x < 5 → T (hasBy d v x) → T (free d (placeBy d v x)) → Gate (opens d i cs t back v x && free d v) (doorAt mask (d .width + 2) back x pad)
+  door-gate x l has from = go back
+    where
+      u : ℕ
+      u = placeBy d v x
+
+      -- the byte m of the place z that is left, by the way y
+      gate-of : (z y m : ℕ) → y < 5 → m ≡ shade d z → (T (free d v) → T (free d z)) → Gate (leaves d z y && free d v) (cond (opensBy m y) (getD mask pad 0) 0)
+      gate-of z y m b e h = rw (e, opens-shade d z y b, masked .inside v on) (gate-door (free d z) (leaves d z y) (free d v) h (shade-gate d v))
+
+      with-place : (b : Bool) (m n : ℕ) → T b → m ≡ cond b n 0 → m ≡ n
+      with-place true m n t e = e
+
+      go : (b : Bool) → Gate (cond b (leaves d v x) (leaves d u (wayBack x)) && free d v)
+          (cond (opensBy (getD mask (moveBy (d .width + 2) pad (cond b 2 x)) 0) (cond b x (wayBack x))) (getD mask pad 0) 0)
+      go true =
+          let e : pad + (d .width + 2) - (d .width + 2) ≡ pad = omega arith in
+          gate-of v x (getD mask (pad + (d .width + 2) - (d .width + 2)) 0) l (ap (λ (q : ℕ). getD mask q 0) e ∙ masked .inside v on) (λ h. h)
+      go false =
+          let p : ℕ = moveBy (d .width + 2) pad x in
+          gate-of u (wayBack x) (getD mask p 0) (omega arith) (with-place (hasBy d v x) (getD mask p 0) (shade d u) has (layer-by d v on mask (shade d) masked x l)) (λ h. from)
+
+  -- the byte of a way before the constraints
+  pub way-gate : (doors : List ℕ) → Doors mask (d .width) (d .height) back doors → (x : ℕ) → x < 5 → T (hasBy d v x) → T (free d (placeBy d v x))
+      → Gate (opens d i cs t back v x && free d v) (wayAt mask doors x pad)
+  way-gate doors given x l has from = go (eqb (length doors) 0) refl
+    where
+      go : (b : Bool) → eqb (length doors) 0 ≡ b → Gate (opens d i cs t back v x && free d v) (cond b (getD mask pad 0) (getD doors (1156 * x + pad) 0))
+      go true e = plain-gate (given .none (eqb-true (length doors) 0 e)) x l has from
+      go false e = rw (given .five (eqb-false (length doors) 0 e) .at x l pad (pad-least d v on) (pad-most d v on)) (door-gate x l has from)
+
+-- a way to the border has 0
+way-edge : (d : Sheet) (back : Bool) (mask : List ℕ) → MaskOf d mask → (doors : List ℕ) → Doors mask (d .width) (d .height) back doors → (p : ℕ) → Border d p
+    → d .width + 2 ≤ p → p < (d .width + 2) * (d .height + 1) → (x : ℕ) → x < 5 → wayAt mask doors x p ≡ 0
+way-edge d back mask masked doors given p b lo hi x l = go (eqb (length doors) 0) refl
+  where
+    none : (o : Bool) (m : ℕ) → m ≡ 0 → cond o m 0 ≡ 0
+    none true m e = e
+    none false m e = refl
+
+    go : (c : Bool) → eqb (length doors) 0 ≡ c → cond c (getD mask p 0) (getD doors (1156 * x + p) 0) ≡ 0
+    go true e = masked .border p b
+    go false e = given .five (eqb-false (length doors) 0 e) .at x l p lo hi ∙ none (opensBy (getD mask (moveBy (d .width + 2) p (cond back 2 x)) 0) (cond back x (wayBack x))) (getD mask p 0) (masked .border p b)
+
+-- the labels go one step by ways that have their bytes where the move is free, and 0 where it is barred
 module _ (d : Sheet) (i : Carrier) (cs : List Constraint) (t : ℕ) (back : Bool) (src mask before after : List ℕ) (f : ℕ → ℕ)
-    (masked : MaskOf d mask) (labels : Labels d f) (h : Holds d src f) (m : Margin (d .width) (d .height) before) where
-  -- every way is open, so what the mask says of the place is enough
-  all-open : (v x n : ℕ) → Gate (free d v) n → Gate (opens d i cs t back v x && free d v) n
-  all-open v x n g = rw (go back) g
+    (masked : MaskOf d mask) (labels : Labels d f) (h : Holds d src f) (m : Margin (d .width) (d .height) before) (doors : List ℕ)
+    (given : Doors mask (d .width) (d .height) back doors) where
+  pub ways-holds : (ways : ℕ → ℕ → ℕ)
+      → ((v : ℕ) → v < area d → (x : ℕ) → x < 5 → T (hasBy d v x)
+      → ways x (padOf (d .width) v) ≡ cond (moveFree d i cs t back (placeBy d v x) v) (wayAt mask doors x (padOf (d .width) v)) 0)
+      → ((x : ℕ) → x < 5 → (p : ℕ) → p < (d .width + 2) * (d .height + 1) → ways x p ≤ wayAt mask doors x p)
+      → Filled (d .width + 2) ((d .width + 2) * (d .height + 1)) (spreadOf src ways (d .width + 2)) before after → Holds d after (around d i cs t back f)
+  ways-holds ways left less fill = filled-holds d (spreadOf src ways (d .width + 2)) (around d i cs t back f) before after fill m
+      (λ v on. five d i cs t back src f h labels v on (λ x. ways x (padOf (d .width) v)) (by-way v on))
+      (λ p b lo hi.
+      let none : (x : ℕ) → x < 5 → ways x p ≡ 0 = λ x l. omega (arith, less x l p hi, way-edge d back mask masked doors given p b lo hi x l) in
+      five-none (getD src (p - (d .width + 2)) 0) (getD src (p - 1) 0) (getD src p 0) (getD src (p + 1) 0) (getD src (p + (d .width + 2)) 0)
+      (none 0 (omega arith)) (none 1 (omega arith)) (none 2 (omega arith)) (none 3 (omega arith)) (none 4 (omega arith)))
     where
-      go : (b : Bool) → cond b (leaves d v x) (leaves d (placeBy d v x) (wayBack x)) ≡ true
-      go true = leaves-any d v x
-      go false = leaves-any d (placeBy d v x) (wayBack x)
+      by-way : (v : ℕ) (on : v < area d) (x : ℕ) → x < 5 → T (hasBy d v x) → T (free d (placeBy d v x)) → Gate (mayCome d i cs t back v x) (ways x (padOf (d .width) v))
+      by-way v on x l has from =
+          rw (left v on x l has) (gate-if (moveFree d i cs t back (placeBy d v x) v) (way-gate d i cs t back mask masked v on doors given x l has from))
 
-  -- without a constraint on moves at t one mask serves the five ways
-  pub plain-holds : ((u v : ℕ) → freeMove i cs t u v ≡ true)
-      → Filled (d .width + 2) ((d .width + 2) * (d .height + 1)) (spreadAt src mask (d .width + 2)) before after → Holds d after (around d i cs t back f)
-  plain-holds all-free fill = filled-holds d (spreadAt src mask (d .width + 2)) (around d i cs t back f) before after fill m
-      (λ v on.
-      min-five (getD src (padOf (d .width) v - (d .width + 2)) 0) (getD src (padOf (d .width) v - 1) 0) (getD src (padOf (d .width) v) 0)
-      (getD src (padOf (d .width) v + 1) 0) (getD src (padOf (d .width) v + (d .width + 2)) 0) (getD mask (padOf (d .width) v) 0)
-      ∙ five d i cs t back src f h labels v on (at v) (at v) (at v) (at v) (at v)
-      (record { above = λ q. one v on 0; left = λ q. one v on 1; same = λ q. one v on 2; right = λ q. one v on 3; below = λ q. one v on 4 }))
-      (λ p b l k. min-zero _ (getD mask p 0) (masked .border p b))
+  -- no move is barred: the ways have their bytes
+  pub free-holds : ((u v : ℕ) → freeMove i cs t u v ≡ true) → (ways : ℕ → ℕ → ℕ) → ((x p : ℕ) → ways x p ≡ wayAt mask doors x p)
+      → Filled (d .width + 2) ((d .width + 2) * (d .height + 1)) (spreadOf src ways (d .width + 2)) before after → Holds d after (around d i cs t back f)
+  free-holds all-free ways same fill =
+      ways-holds ways (λ v on x l has. rw (free-move (placeBy d v x) v) (same x (padOf (d .width) v))) (λ x l p b. omega (arith, same x p)) fill
     where
-      at : ℕ → ℕ
-      at v = getD mask (padOf (d .width) v) 0
-
       free-move : (u v : ℕ) → moveFree d i cs t back u v ≡ true
       free-move u v = go back
         where
           go : (b : Bool) → cond b (freeMove i cs t v u) (freeMove i cs t u v) ≡ true
           go true = all-free v u
           go false = all-free u v
-
-      one : (v : ℕ) → v < area d → (x : ℕ) → Gate (mayCome d i cs t back v x) (at v)
-      one v on x = rw (free-move (placeBy d v x) v, masked .inside v on) (all-open v x (shade d v) (shade-gate d v))
-
-  -- with constraints each way has the mask that is left of it
-  pub ways-holds : (ways : List ℕ) → ((k : ℕ) → k < 5 → (p : ℕ) → p < 1156 → getD ways (1156 * k + p) 0 ≤ getD mask p 0)
-      → ((u v : ℕ) → v < area d → u < area d → wayOf (d .width + 2) (padOf (d .width) u) (padOf (d .width) v) < 5
-      → getD ways (slotOf (d .width + 2) (padOf (d .width) u) (padOf (d .width) v)) 0 ≡ cond (moveFree d i cs t back u v) (shade d v) 0)
-      → (d .width + 2) * (d .height + 1) ≤ 1156
-      → Filled (d .width + 2) ((d .width + 2) * (d .height + 1)) (spreadBy src ways (d .width + 2)) before after → Holds d after (around d i cs t back f)
-  ways-holds ways less left small fill = filled-holds d (spreadBy src ways (d .width + 2)) (around d i cs t back f) before after fill m
-      (λ v on. five d i cs t back src f h labels v on
-      (getD ways (padOf (d .width) v) 0) (getD ways (1156 + padOf (d .width) v) 0) (getD ways (2312 + padOf (d .width) v) 0)
-      (getD ways (3468 + padOf (d .width) v) 0) (getD ways (4624 + padOf (d .width) v) 0)
-      (record {
-        above = by-way v on 0 (omega arith) (omega arith);
-        left = by-way v on 1 (omega arith) (omega arith);
-        same = by-way v on 2 (omega arith) (omega arith);
-        right = by-way v on 3 (omega arith) (omega arith);
-        below = by-way v on 4 (omega arith) (omega arith);
-      }))
-      (λ p b l k. none p (masked .border p b) (omega arith))
-    where
-      by-way : (v : ℕ) → v < area d → (x : ℕ) {q : ℕ} → q ≡ 1156 * x + padOf (d .width) v → x < 5 → T (hasBy d v x) → Gate (mayCome d i cs t back v x) (getD ways q 0)
-      by-way v on x {q} s l h =
-          let u : ℕ = placeBy d v x in
-          let e = way-by d v on x l h in
-          let r : q ≡ slotOf (d .width + 2) (padOf (d .width) u) (padOf (d .width) v) = omega (arith, e) in
-          rw (r, left u v on (leads d v on x l h .inside) (omega (arith, e))) (gate-if (moveFree d i cs t back u v) (all-open v x (shade d v) (shade-gate d v)))
-
-      zero-at : (p : ℕ) → getD mask p 0 ≡ 0 → p < 1156 → (k q : ℕ) → k < 5 → q ≡ 1156 * k + p → getD ways q 0 ≡ 0
-      zero-at p e l k q b s = rw s (omega (arith, less k b p l))
-
-      none : (p : ℕ) → getD mask p 0 ≡ 0 → p < 1156 → spreadBy src ways (d .width + 2) p ≡ 0
-      none p e l =
-          five-none (getD src (p - (d .width + 2)) 0) (getD src (p - 1) 0) (getD src p 0) (getD src (p + 1) 0) (getD src (p + (d .width + 2)) 0)
-          (zero-at p e l 0 p (omega arith) (omega arith)) (zero-at p e l 1 (1156 + p) (omega arith) (omega arith)) (zero-at p e l 2 (2312 + p) (omega arith) (omega arith))
-          (zero-at p e l 3 (3468 + p) (omega arith) (omega arith)) (zero-at p e l 4 (4624 + p) (omega arith) (omega arith))

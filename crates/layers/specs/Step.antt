@@ -1,10 +1,11 @@
 -- One step of a layer of labels: what the code's step comes to on the grid itself. Assumes nothing.
 use Prim.Native.Nat.{ℕ, _+_, _*_, _≤_, _<_}
 use mathlib.Core.Path.{_≡_}
+use mathlib.Core.Logic.{_⊎_, _≢_}
 use mathlib.Core.Bool.{Bool, cond, _&&_}
 use mathlib.Core.List.{List}
 use lib.ListN.{length, getD}
-use lib.Dec.{T}
+use lib.Dec.{T, eqb}
 use Rattle.deck.specs.Sheet.{Sheet, area, free}
 use Rattle.deck.specs.declared.Carrier.{Carrier}
 use Rattle.deck.specs.declared.Constraint.{Constraint}
@@ -13,6 +14,7 @@ use Rattle.kernel.specs.Near.{near}
 use Rattle.kernel.specs.Parts.{freeMove, stands, stepFree}
 use Rattle.kernel.specs.Kernel.{settle, seed}
 use Rattle.bars.specs.Padded.{padOf, Holds, MaskOf}
+use Rattle.bars.specs.Ways.{moveBy, wayBack, opensBy}
 use Rattle.layers.specs.Raise.{GoalsAt}
 
 -- one may go from u to v at t, or backward from v to u
@@ -44,10 +46,33 @@ pub record Margin (w h : ℕ) (x : List ℕ) : Type 0 where
   pub over : (p : ℕ) → p < w + 2 → getD x p 0 ≡ 0
   pub under : (p : ℕ) → (w + 2) * (h + 1) ≤ p → getD x p 0 ≡ 0
 
--- the five ways with one mask each
-pub record Copies (mask ways : List ℕ) : Type 0 where
+-- from wide to end - 1 no byte of the mask is that of a lane
+abbrev pub Plain : List ℕ → ℕ → ℕ → Type 0
+Plain mask wide end = (p : ℕ) → wide ≤ p → p < end → (getD mask p 0 ≡ 0) ⊎ (getD mask p 0 ≡ 255)
+
+-- the byte by which labels pass to the padded place p by the way x: that of p, if the place that is left may be left that way. Forward the
+-- place by the way x is left, by the way back; backward p itself is left
+abbrev pub doorAt : List ℕ → ℕ → Bool → ℕ → ℕ → ℕ
+doorAt mask wide back x p = cond (opensBy (getD mask (moveBy wide p (cond back 2 x)) 0) (cond back x (wayBack x))) (getD mask p 0) 0
+
+-- these bytes of the first n ways
+pub record DoorsTo (n : ℕ) (mask : List ℕ) (wide end : ℕ) (back : Bool) (doors : List ℕ) : Type 0 where
+  pub size : length doors ≡ 6936
+  pub at : (x : ℕ) → x < n → (p : ℕ) → wide ≤ p → p < end → getD doors (1156 * x + p) 0 ≡ doorAt mask wide back x p
+
+-- the doors that a step is given: none where no place is a lane, and else the bytes of the five ways
+pub record Doors (mask : List ℕ) (w h : ℕ) (back : Bool) (doors : List ℕ) : Type 0 where
+  pub none : length doors ≡ 0 → Plain mask (w + 2) ((w + 2) * (h + 1))
+  pub five : length doors ≢ 0 → DoorsTo 5 mask (w + 2) ((w + 2) * (h + 1)) back doors
+
+-- the byte of the way x to p before the constraints: where there are no doors that of the place
+abbrev pub wayAt : List ℕ → List ℕ → ℕ → ℕ → ℕ
+wayAt mask doors x p = cond (eqb (length doors) 0) (getD mask p 0) (getD doors (1156 * x + p) 0)
+
+-- these bytes of the five ways
+pub record Copies (mask doors ways : List ℕ) : Type 0 where
   pub size : length ways ≡ 6936
-  pub copied : (k : ℕ) → k < 5 → (p : ℕ) → p < 1156 → getD ways (1156 * k + p) 0 ≡ getD mask p 0
+  pub copied : (k : ℕ) → k < 5 → (p : ℕ) → p < 1156 → getD ways (1156 * k + p) 0 ≡ wayAt mask doors k p
 
 -- after the labels of src have gone one step at t: on every sheet that the numbers and the mask are those of
 pub record Advanced (w h : ℕ) (mask : List ℕ) (i : Carrier) (cs : List Constraint) (t : ℕ) (back : Bool) (src before after : List ℕ) : Type 0 where

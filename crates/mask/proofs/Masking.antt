@@ -1,21 +1,41 @@
 -- The mask, made row by row out of the sheet's grid bytes. Assumes nothing.
-use Prim.Native.Nat.{ℕ, _+_, _-_, _*_, _≤_, _<_}
+use Prim.Native.Nat.{ℕ, zero, suc, _+_, _-_, _*_, _≤_, _<_, max}
 use mathlib.Core.Path.{_≡_, refl, sym, ap, _∙_, subst}
-use mathlib.Core.Logic.{⊎-elim}
+use mathlib.Core.Logic.{_⊎_, inl, inr, ⊎-elim}
+use mathlib.Core.Bool.{Bool, true, cond}
 use mathlib.Core.List.{List}
-use native.Mathlib.Nat.{mul-add, add-mul, suc-mul, mul-comm, mul-le-mul-right, div-lt-iff-lt-mul}
+use native.Mathlib.Nat.{eq-or-lt-of-le, mul-add, add-mul, suc-mul, mul-comm, mul-le-mul-right, div-lt-iff-lt-mul}
 use native.Mathlib.Omega.{arith}
 use lib.ListN.{length, getD, drop, replicate, length-replicate, getD-replicate, List·getD-eq-default}
 use lib.Seq.{getD-take, getD-drop}
+use lib.Dec.{T, eqb, ltb, ltb→lt}
 use borrow.Author.Tests.{lt-ltb}
 use Rattle.deck.specs.Sheet.{Sheet, read, area, cause, gridPair, gridStretch}
 use Rattle.meaning.proofs.Accepted.{accepted, accepted-inside, directory-says}
 use Rattle.sheet.proofs.Accepted.{width-range, height-range}
 use Rattle.kernel.proofs.Choice.{lt-or-ge}
-use Rattle.bars.specs.Padded.{padOf, shade, MaskOf}
+use Rattle.bars.specs.Padded.{padOf, shadeOf, shade, MaskOf}
 use Rattle.bars.proofs.Grid.{pad-row, size-of, size-small}
 use Rattle.layers.specs.Fill.{Filled}
-use Rattle.mask.specs.Mask.{shadeOf, Masked}
+use Rattle.mask.specs.Mask.{Most, Plain, Masked}
+
+-- without lanes one test tells a byte
+pub plain-shade : (b : ℕ) → b ≤ 1 → cond (eqb b 1) 0 255 ≡ shadeOf b
+plain-shade zero l = refl
+plain-shade (suc zero) l = refl
+plain-shade (suc (suc b)) l = absurd (omega arith)
+
+-- the greatest of the bytes passed
+module _ (s : List ℕ) (from : ℕ) where
+  pub most-none : (r : ℕ) → Most s from 0 r
+  most-none r k h = absurd (omega arith)
+
+  pub most-more : (n r next : ℕ) → next ≡ max r (getD s (from + n) 0) → Most s from n r → Most s from (n + 1) next
+  most-more n r next e m k h = go (eq-or-lt-of-le h)
+    where
+      go : (suc k ≡ n + 1) ⊎ (suc k < n + 1) → getD s (from + k) 0 ≤ next
+      go (inl i) = let q : k ≡ n = omega arith in rw q (omega arith)
+      go (inr l) = omega (arith, m k (omega arith))
 
 module _ (s : List ℕ) (ok : cause s ≡ 0) where
   abbrev d : Sheet
@@ -54,6 +74,10 @@ module _ (s : List ℕ) (ok : cause s ≡ 0) where
     omega (arith, grid-inside, rows-in y h),
     omega (arith, suc-mul y (w + 2), mul-le-mul-right (w + 2) h, mul-comm (d .height) (w + 2), size-of w (d .height), mul-add (w + 2) (d .height) 1, size-small w (d .height) (width-range s ok .1) (height-range s ok .1), width-range s ok .1, height-range s ok .1),
   )
+
+  -- the grid as a whole, and its rows
+  pub grid-asks : {w1 h1 o1 : ℕ} → w1 ≡ w → h1 ≡ d .height → o1 ≡ o → (w1 * h1 ≤ 1024) × (o1 + w1 * h1 ≤ length s)
+  grid-asks ew eh eo = rw (ew, eh, eo) (size-small w (d .height) (width-range s ok .1) (height-range s ok .1), grid-inside)
 
   pub mask-none : Masked d 0 (replicate 1156 0)
   mask-none = record { size = length-replicate {A = ℕ} 1156 0; inside = λ v h. absurd (omega arith); border = λ p b. zeros p }
@@ -99,6 +123,14 @@ module _ (s : List ℕ) (ok : cause s ≡ 0) where
   module _ {w1 o1 : ℕ} (ew : w1 ≡ w) (eo : o1 ≡ o) (y : ℕ) (h : y < d .height) where
     pub code-asks : (o1 + y * w1 + w1 ≤ length s) × (y * (w1 + 2) + w1 + 3 + w1 ≤ 1156)
     code-asks = rw (ew, eo) (row-asks y h)
+
+    -- of bytes without lanes each row is without lanes
+    pub code-plain : {h1 most : ℕ} {plain : Bool} → h1 ≡ d .height → Most s o1 (w1 * h1) most → plain ≡ ltb most 2 → plain ≡ true → Plain s (o1 + y * w1) w1
+    code-plain {h1} {most} {plain} eh m e t k b =
+        let z : most < 2 = ltb→lt most 2 (subst T (sym (sym e ∙ t)) tt) in
+        let q : o1 + y * w1 + k ≡ o1 + (y * w1 + k) = omega arith in
+        let r : y * w1 + w1 ≤ w1 * h1 = rw (ew, eh) (rows-in y h) in
+        rw q (omega (arith, m (y * w1 + k) (omega arith)))
 
     pub code-more : (before after : List ℕ) → Masked d (y * w1) before
         → Filled (y * (w1 + 2) + w1 + 3) (y * (w1 + 2) + w1 + 3 + w1) (λ p. shadeOf (getD s (o1 + y * w1 + (p - (y * (w1 + 2) + w1 + 3))) 0)) before after

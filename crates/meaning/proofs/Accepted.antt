@@ -3,14 +3,14 @@
 use Prim.Native.Nat.{ℕ, zero, suc, _+_, _*_, _≤_, _<_}
 use mathlib.Core.Path.{_≡_, refl, ap}
 use mathlib.Core.Logic.{_⊎_, inl, inr}
-use mathlib.Core.Bool.{Bool, true, false, _&&_}
+use mathlib.Core.Bool.{Bool, true, false, _&&_, not}
 use mathlib.Core.List.{List, [], _∷_}
 use native.Mathlib.Nat.{eq-or-lt-of-le}
 use native.Mathlib.Omega.{arith}
 use lib.Dec.{T, leb, ltb, eqb, ltb→lt, eqb→eq}
 use lib.ListN.{length, getD, length-take, length-drop}
 use Rattle.deck.specs.Lists.{below, within, all, distinct}
-use Rattle.deck.specs.Sheet.{Stretch, area, carrier, task, startOf, byteAt, widthOf, heightOf, countOf, horizonOf, limitOf, part, pairAt, pairsFor, startsPair, directoryEnd, gridStretch, startsStretch, taskStretch, words, read, free, chained, goalsSize, unless, _orElse_, goodHeader, goodDirectory, goodGrid, goodStarts, goodGoals, goodLastGoals, cause}
+use Rattle.deck.specs.Sheet.{Stretch, area, gridByte, carrier, task, startOf, byteAt, widthOf, heightOf, countOf, horizonOf, limitOf, part, pairAt, pairsFor, startsPair, directoryEnd, gridStretch, startsStretch, taskStretch, words, read, free, chained, goalsSize, unless, _orElse_, goodHeader, goodDirectory, goodGrid, goodStarts, goodGoals, goodLastGoals, cause}
 use Rattle.meaning.proofs.Tests.{Says, says-eqb, says-leb, says-and}
 use Rattle.meaning.proofs.ListTests.{says-all-at}
 
@@ -145,4 +145,4 @@ module _ (s : List ℕ) (ok : cause s ≡ 0) where
       let v = startOf (read s) (carrier i) in
       let free-all = both (all (free (read s)) (read s .starts)) (distinct (read s .starts)) (accepted s ok .starts) .0 in
       let t = says-all-at (free (read s)) (λ v. T (free (read s) v)) (λ v. says-itself) 0 (read s .starts) .fact free-all i (omega (arith, accepted-starts)) in
-      ltb→lt v (area (read s)) (both (ltb v (area (read s))) (eqb (getD (read s .grid) v 0) 0) t .0)
+      ltb→lt v (area (read s)) (both (ltb v (area (read s))) (not (eqb (gridByte (read s) v) 1)) t .0)

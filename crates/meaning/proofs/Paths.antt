@@ -1,23 +1,24 @@
 -- The tests of steps, paths and constraints say what is meant, and the walks that are enumerated and serve a task are the paths.
 -- Assumes nothing.
-use Prim.Native.Nat.{ℕ, zero, suc, _≤_, _<_}
+use Prim.Native.Nat.{ℕ, zero, suc, _/_, _%_, _≤_, _<_}
 use mathlib.Core.Path.{_≡_, refl}
 use mathlib.Core.Logic.{_↔_, ⊎-elim}
-use mathlib.Core.Bool.{Bool, true, false, _&&_}
+use mathlib.Core.Bool.{Bool, true, false, cond, _&&_}
 use mathlib.Core.List.{List, [], _∷_, List·Memᴰ as Mem}
 use native.Mathlib.Nat.{not-suc-le-zero}
 use native.Mathlib.Omega.{arith}
 use lib.ListN.{length}
-use lib.Dec.{T}
+use lib.Dec.{T, eqb}
+use borrow.Author.Tests.{eqb-true, eqb-false}
 use Rattle.deck.specs.Lists.{all}
-use Rattle.deck.specs.Sheet.{Sheet, area, free, startOf, goalsOf, lastGoal}
-use Rattle.deck.specs.Paths.{oneApart, nextTo, beside, mayStep, walks, finishOf, serves, keeps}
+use Rattle.deck.specs.Sheet.{Sheet, area, gridByte, free, startOf, goalsOf, lastGoal}
+use Rattle.deck.specs.Paths.{oneApart, nextTo, mayLeave, beside, mayStep, walks, finishOf, serves, keeps}
 use Rattle.deck.specs.PlanCheck.{follows, isPath}
 use Rattle.deck.specs.declared.Carrier.{Carrier}
 use Rattle.deck.specs.declared.Task.{Task}
 use Rattle.deck.specs.declared.Constraint.{Constraint}
 use Rattle.deck.specs.declared.Constraint.the-variants.{Place, Move}
-use Rattle.meaning.specs.Meaning.{_at_, Free, OneApart, NextTo, Beside, Step, Visits, Finish, Path, Keeps}
+use Rattle.meaning.specs.Meaning.{_at_, Free, OneApart, NextTo, MayLeave, Beside, Step, Visits, Finish, Path, Keeps}
 use Rattle.meaning.proofs.Tests.{Says, says-eqb, says-leb, says-and, says-or, says-not, says-nil, says-iff}
 use Rattle.meaning.proofs.ListTests.{says-all}
 use Rattle.meaning.proofs.Walks.{step-iff, walk-of-mem, mem-of-walk}
@@ -37,6 +38,46 @@ pub next-meant : (w u v : ℕ) → Says (nextTo w u v) (NextTo w u v)
 unfolding nextTo
 next-meant w u v = says-or (says-and says-eqb (apart-meant _ _)) (says-and says-eqb (apart-meant _ _))
 
+pub leave-meant : (w b u v : ℕ) → Says (mayLeave w b u v) (MayLeave w b u v)
+unfolding mayLeave
+leave-meant w b u v = go (eqb b 2) refl (eqb b 3) refl (eqb b 4) refl (eqb b 5) refl
+  where
+    go : (n : Bool) → eqb b 2 ≡ n → (e : Bool) → eqb b 3 ≡ e → (s : Bool) → eqb b 4 ≡ s → (x : Bool) → eqb b 5 ≡ x
+        → Says (cond n (eqb (suc (v / w)) (u / w)) (cond e (eqb (v % w) (suc (u % w))) (cond s (eqb (v / w) (suc (u / w))) (cond x (eqb (suc (v % w)) (u % w)) true)))) (MayLeave w b u v)
+    go true p e q s r x y =
+        let z : b ≡ 2 = eqb-true b 2 p in
+        says-iff says-eqb (
+          λ h. record { north = λ _. h; east = λ k. absurd (omega arith); south = λ k. absurd (omega arith); west = λ k. absurd (omega arith) },
+          λ l. l .north z,
+        )
+    go false p true q s r x y =
+        let z : b ≡ 3 = eqb-true b 3 q in
+        says-iff says-eqb (
+          λ h. record { north = λ k. absurd (omega arith); east = λ _. h; south = λ k. absurd (omega arith); west = λ k. absurd (omega arith) },
+          λ l. l .east z,
+        )
+    go false p false q true r x y =
+        let z : b ≡ 4 = eqb-true b 4 r in
+        says-iff says-eqb (
+          λ h. record { north = λ k. absurd (omega arith); east = λ k. absurd (omega arith); south = λ _. h; west = λ k. absurd (omega arith) },
+          λ l. l .south z,
+        )
+    go false p false q false r true y =
+        let z : b ≡ 5 = eqb-true b 5 y in
+        says-iff says-eqb (
+          λ h. record { north = λ k. absurd (omega arith); east = λ k. absurd (omega arith); south = λ k. absurd (omega arith); west = λ _. h },
+          λ l. l .west z,
+        )
+    go false p false q false r false y = record {
+      fact = λ _. record {
+        north = λ k. absurd (eqb-false b 2 p k);
+        east = λ k. absurd (eqb-false b 3 q k);
+        south = λ k. absurd (eqb-false b 4 r k);
+        west = λ k. absurd (eqb-false b 5 y k);
+      };
+      test = λ _. tt;
+    }
+
 -- a path has the finish that is computed
 pub path-finish : {d : Sheet} {i : Carrier} {j : Task} {p : List ℕ} {t : ℕ} → Path d i j p t → finishOf d j p ≡ t
 path-finish {d} {j} {p} {t} h = finish-meant (d .horizon) (lastGoal d j) p t (h .long) (h .finishes .rests .0) .1 (h .finishes)
@@ -54,11 +95,11 @@ keeps-all-meant i p cs = says-all (keeps i p) (Keeps i p) (keeps-meant i p) cs
 
 module _ (d : Sheet) where
   pub free-meant : (v : ℕ) → Says (free d v) (Free d v)
-  free-meant v = says-iff (says-and says-leb says-eqb) (λ h. record { on-grid = h .0; unblocked = h .1 }, λ f. (f .on-grid, f .unblocked))
+  free-meant v = says-iff (says-and says-leb (says-not says-eqb)) (λ h. record { on-grid = h .0; unblocked = h .1 }, λ f. (f .on-grid, f .unblocked))
 
   pub beside-meant : (u v : ℕ) → Says (beside d u v) (Beside d u v)
   unfolding beside
-  beside-meant u v = next-meant (d .width) u v
+  beside-meant u v = says-and (next-meant (d .width) u v) (leave-meant (d .width) (gridByte d u) u v)
 
   pub step-meant : (u v : ℕ) → Says (mayStep d u v) (Step d u v)
   unfolding mayStep

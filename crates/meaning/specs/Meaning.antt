@@ -21,7 +21,7 @@ use Rattle.deck.specs.declared.Collision.the-variants.{Place as PlaceCollision,
 
 pub record Free (d : Sheet) (v : ℕ) : Type 0 where
   pub on-grid : v < area d
-  pub unblocked : (d .grid) at v ≡ 0
+  pub unblocked : (d .grid) at v ≢ 1
 
 abbrev pub OneApart : ℕ → ℕ → Type 0
 OneApart a b = (suc a ≡ b) ⊎ (suc b ≡ a)
@@ -31,9 +31,17 @@ OneApart a b = (suc a ≡ b) ⊎ (suc b ≡ a)
 abbrev pub NextTo : (w u v : ℕ) → Type 0
 NextTo w u v = ((u / w ≡ v / w) × OneApart (u % w) (v % w)) ⊎ ((u % w ≡ v % w) × OneApart (u / w) (v / w))
 
+-- a place u with the grid byte b may be left to v: a lane, which has a byte from 2 to 5, only to the place north, east, south or west
+-- of it
+pub record MayLeave (w b u v : ℕ) : Type 0 where
+  pub north : b ≡ 2 → suc (v / w) ≡ u / w
+  pub east : b ≡ 3 → v % w ≡ suc (u % w)
+  pub south : b ≡ 4 → v / w ≡ suc (u / w)
+  pub west : b ≡ 5 → suc (v % w) ≡ u % w
+
 -- v is beside u on the sheet, seen from u
 abbrev pub Beside : Sheet → ℕ → ℕ → Type 0
-Beside d u v = NextTo (d .width) u v
+Beside d u v = NextTo (d .width) u v × MayLeave (d .width) ((d .grid) at u) u v
 
 -- a step waits, or goes to a free place beside
 abbrev pub Step : Sheet → ℕ → ℕ → Type 0

@@ -52,8 +52,8 @@ module _ (d : Sheet) (u v : ℕ) where
 
   step-packed : Step d u v → PackedStep (d .width) u v
   step-packed (inl e) = inl (sym e)
-  step-packed (inr (f, inl (e, g))) = row e g
-  step-packed (inr (f, inr (e, g))) = column e g
+  step-packed (inr (f, (inl (e, g), l))) = row e g
+  step-packed (inr (f, (inr (e, g), l))) = column e g
 
 module _ (d : Sheet) (f : Fits d) (i : ℕ) (b : i < d .count) (p : List ℕ) (m : Mem p (walks d (d .horizon) (startOf d (carrier i)))) where
   walk : Walk d (d .horizon) (startOf d (carrier i)) p

@@ -2,6 +2,7 @@
 use Prim.Native.Nat.{ℕ, suc, _+_, _-_, _*_, _/_, _≤_, _<_}
 use mathlib.Core.Path.{_≡_, ap, ap₂, _∙_, subst}
 use mathlib.Core.Logic.{⊎-elim}
+use mathlib.Core.Bool.{true}
 use mathlib.Core.List.{List}
 use native.Mathlib.Nat.{eq-or-lt-of-le, le-trans, mul-le-mul, mul-le-mul-right, suc-mul}
 use native.Mathlib.Omega.{arith}
@@ -16,7 +17,7 @@ use Rattle.kernel.specs.Labels.{allGoals}
 use Rattle.kernel.specs.Kernel.{hind}
 use Rattle.bars.specs.Padded.{padOf, Holds}
 use Rattle.bars.specs.Bars.{countIn, Chained}
-use Rattle.layers.specs.Step.{Margin}
+use Rattle.layers.specs.Step.{Margin, Doors}
 use Rattle.layers.specs.Packed.{Kept, wordsFor, Laid}
 use Rattle.layers.proofs.Keeping.{kept-laid, laid-stays, words-fit}
 use Rattle.passes.specs.Ready.{Ready, Turned, roomFor, layerAt, Backed}
@@ -99,11 +100,12 @@ module _ (s : List ℕ) (i : Carrier) (j : Task) (mask rs : List ℕ) (r : Ready
         (subst (λ (z : ℕ). Kept x (w + 2) (countIn rs + t * wordsFor w z) (wordsFor w z) before after) eh k)
 
   -- what one layer more asks, u being one less than t
-  pub back-asks : (goals : List ℕ) → Turned s j goals → (end t u : ℕ) → end ≤ read s .horizon → t ≤ end → t ≡ u + 1 → {heads a b work : List ℕ}
+  pub back-asks : (goals : List ℕ) → Turned s j goals → (doors : List ℕ) → Doors mask (read s .width) (read s .height) true doors → (end t u : ℕ) → end ≤ read s .horizon → t ≤ end → t ≡ u + 1 → {heads a b work : List ℕ}
       → Holds (read s) a (hind (read s) i j (constraintsOf rs) (end - t) t) → Margin (read s .width) (read s .height) b → Backed s i j rs heads end t work
       → Ready s i j mask rs × Turned s j goals × (u < end) × (end ≤ read s .horizon) × Holds (read s) a (hind (read s) i j (constraintsOf rs) (end - (u + 1)) (u + 1))
       × Margin (read s .width) (read s .height) b × Backed s i j rs heads end (u + 1) work
-  back-asks goals g end t u l m e {heads} {a} {b} {work} h mar bk = (
+      × Doors mask (read s .width) (read s .height) true doors
+  back-asks goals g doors given end t u l m e {heads} {a} {b} {work} h mar bk = (
     r,
     g,
     omega arith,
@@ -111,6 +113,7 @@ module _ (s : List ℕ) (i : Carrier) (j : Task) (mask rs : List ℕ) (r : Ready
     subst (λ (z : ℕ). Holds (read s) a (hind (read s) i j (constraintsOf rs) (end - z) z)) e h,
     mar,
     subst (λ (z : ℕ). Backed s i j rs heads end z work) e bk,
+    given,
   )
 
   -- the answer, read off the layer of time 0 at the start

@@ -1,5 +1,5 @@
 -- What a ready sheet with good records gives. Assumes nothing.
-use Prim.Native.Nat.{ℕ, zero, suc, _/_, _%_, _≤_, _<_}
+use Prim.Native.Nat.{ℕ, zero, suc, _+_, _*_, _/_, _%_, _≤_, _<_}
 use mathlib.Core.Path.{_≡_, sym, _∙_, subst}
 use mathlib.Core.Bool.{Bool}
 use mathlib.Core.List.{List, List·Memᴰ as Mem}
@@ -25,6 +25,7 @@ use Rattle.bars.specs.Padded.{padOf}
 use Rattle.bars.specs.Bars.{countIn, Timely, OnLayer}
 use Rattle.bars.proofs.Grid.{pad-most, size-of, size-small}
 use Rattle.bars.proofs.Records.{mem-record}
+use Rattle.layers.proofs.Gating.{rows-range}
 use Rattle.passes.specs.Ready.{Ready}
 
 says-itself : {b : Bool} → Says b (T b)
@@ -112,6 +113,10 @@ module _ {s : List ℕ} {i : Carrier} {j : Task} {mask rs : List ℕ} (r : Ready
   -- a padded place is an index of a layer
   pub pad-small : (v : ℕ) → v < area (read s) → padOf (read s .width) v < 1156
   pad-small v h = omega (arith, pad-most (read s) v h, size-of (read s .width) (read s .height), size-small (read s .width) (read s .height) wide-most high-most, wide-most, high-most)
+
+  -- the rows in use
+  pub rows-in : (w h : ℕ) → w ≡ read s .width → h ≡ read s .height → (1 ≤ w + 2) × (w + 2 ≤ 34) × (w + 2 ≤ (w + 2) * (h + 1)) × ((w + 2) * (h + 1) ≤ 1122)
+  rows-in w h ew eh = rows-range w h (omega (arith, wide-most)) (omega (arith, high-most))
 
   pub few-records : countIn rs ≤ 4096
   few-records = good-count (read s) rs (r .records)

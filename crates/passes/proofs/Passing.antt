@@ -25,7 +25,7 @@ use Rattle.kernel.proofs.Bounds.{fore-le, hind-le}
 use Rattle.bars.specs.Padded.{padOf, Holds}
 use Rattle.bars.specs.Bars.{countIn, OnLayer, Chained}
 use Rattle.layers.specs.Raise.{GoalsAt, Indexes}
-use Rattle.layers.specs.Step.{nextLayer, Ground, Labels, Margin, Stepped, Seeded}
+use Rattle.layers.specs.Step.{nextLayer, Ground, Labels, Margin, Doors, Stepped, Seeded}
 use Rattle.layers.proofs.Stepping.{holds-margin}
 use Rattle.passes.specs.Ready.{Ready, Goals, Turned, Early}
 use Rattle.passes.proofs.Turning.{reverse-at, goals-index}
@@ -73,10 +73,10 @@ module _ (s : List ℕ) (i : Carrier) (j : Task) (mask rs : List ℕ) (r : Ready
 
     -- what a step asks
     pub step-asks : (h : ℕ) → h ≡ read s .height → (t on : ℕ) → t < 256 → on < 256 → {heads links : List ℕ} → Chained rs (i .0) heads links
-        → Indexes goals n → (dst : List ℕ) → length dst ≡ 1156
+        → Indexes goals n → (back : Bool) (doors : List ℕ) → Doors mask (read s .width) (read s .height) back doors → (dst : List ℕ) → length dst ≡ 1156
         → (1 ≤ w) × (w ≤ 32) × (1 ≤ h) × (h ≤ 32) × (t < 256) × (on < 256) × (countIn rs ≤ 4096) × OnLayer w rs × Chained rs (i .0) heads links × (n ≤ 8) × Indexes goals n
-        × (length dst ≡ 1156)
-    step-asks h eh t on a b c g dst e = (
+        × Doors mask w h back doors × (length dst ≡ 1156)
+    step-asks h eh t on a b c g back doors given dst e = (
       omega (arith, wide-one r),
       omega (arith, wide-most r),
       omega (arith, high-one r),
@@ -88,6 +88,7 @@ module _ (s : List ℕ) (i : Carrier) (j : Task) (mask rs : List ℕ) (r : Ready
       c,
       omega (arith, few-goals r),
       g,
+      rw (ew, eh) given,
       e,
     )
 

@@ -3,7 +3,7 @@
 use deck::Carrier;
 use deck::Task;
 ghost use mathlib.Core.Path.{_≡_};
-ghost use mathlib.Core.Bool.{_&&_};
+ghost use mathlib.Core.Bool.{true, false, _&&_};
 ghost use mathlib.Core.List.{reverse};
 ghost use Prim.Native.Nat.{ℕ, _+_, _-_, _*_, _<_, _≤_};
 ghost use lib.ListN.{length, getD};
@@ -14,7 +14,7 @@ ghost use Rattle.kernel.specs.Labels.{allGoals};
 ghost use Rattle.kernel.specs.Kernel.{hind, LeastTime};
 ghost use Rattle.bars.specs.Padded.{Holds};
 ghost use Rattle.bars.specs.Bars.{Chained};
-ghost use Rattle.layers.specs.Step.{Margin};
+ghost use Rattle.layers.specs.Step.{Doors, Margin};
 ghost use Rattle.passes.specs.Ready.{Ready, Goals, Turned, Early, roomFor, Backed};
 
 fn wide8(x: u8) -> usize
@@ -61,19 +61,20 @@ fn met(layer: &[u8; 1156], p: usize, n: usize, t: usize, from: usize) -> bool
     }
 }
 
-// The least time at which the task can be finished, or one above the horizon.
-pub fn forward(
+// The forward pass over the ways with these doors.
+fn forward_by(
     s: &[u8],
     i: Carrier,
     j: Task,
     mask: &[u8; 1156],
+    doors: &[u8],
     goals: &[usize; 8],
     records: &[u16],
     heads: &[u16; 256],
     links: &[u32],
     from: usize,
 ) -> usize
-    requires { ⌜ Ready (now s) i j (now mask) (now records) × Chained (now records) (i .0) (now heads) (now links) × Goals (now s) j (now goals) × Early (now s) i j (now records) from ⌝ }
+    requires { ⌜ Ready (now s) i j (now mask) (now records) × Chained (now records) (i .0) (now heads) (now links) × Goals (now s) j (now goals) × Early (now s) i j (now records) from × Doors (now mask) (read (now s) .width) (read (now s) .height) false (now doors) ⌝ }
     ensures { λ r. ⌜ LeastTime (read (now (s .entry))) i j (constraintsOf (now (records .entry))) r ⌝ }
 {
     let w = sheet::width(s);
@@ -94,6 +95,7 @@ pub fn forward(
         }
         layers::step(
             mask,
+            doors,
             w,
             h,
             records,
@@ -116,6 +118,7 @@ pub fn forward(
         }
         layers::step(
             mask,
+            doors,
             w,
             h,
             records,
@@ -134,12 +137,49 @@ pub fn forward(
     }
 }
 
+// The least time at which the task can be finished, or one above the horizon.
+pub fn forward(
+    s: &[u8],
+    i: Carrier,
+    j: Task,
+    mask: &[u8; 1156],
+    goals: &[usize; 8],
+    records: &[u16],
+    heads: &[u16; 256],
+    links: &[u32],
+    from: usize,
+) -> usize
+    requires { ⌜ Ready (now s) i j (now mask) (now records) × Chained (now records) (i .0) (now heads) (now links) × Goals (now s) j (now goals) × Early (now s) i j (now records) from ⌝ }
+    ensures { λ r. ⌜ LeastTime (read (now (s .entry))) i j (constraintsOf (now (records .entry))) r ⌝ }
+{
+    let wide = sheet::width(s) + 2;
+    let end = wide * (sheet::height(s) + 1);
+    if layers::plain(mask, wide, end) {
+        let none = [0u8; 1];
+        return forward_by(
+            s,
+            i,
+            j,
+            mask,
+            &none[..0],
+            goals,
+            records,
+            heads,
+            links,
+            from,
+        );
+    }
+    let doors = layers::doors(mask, wide, end, false);
+    forward_by(s, i, j, mask, &doors, goals, records, heads, links, from)
+}
+
 // One layer of the backward pass from `end`: the layer of time t, from that of t + 1, kept in the workspace.
 fn back_step(
     s: &[u8],
     i: Carrier,
     j: Task,
     mask: &[u8; 1156],
+    doors: &[u8],
     goals: &[usize; 8],
     records: &[u16],
     heads: &[u16; 256],
@@ -149,7 +189,7 @@ fn back_step(
     dst: &mut [u8; 1156],
     work: &mut [u32],
 )
-    requires { ⌜ Ready (now s) i j (now mask) (now records) × Turned (now s) j (now goals) × (t < end) × (end ≤ read (now s) .horizon) × Holds (read (now s)) (now src) (hind (read (now s)) i j (constraintsOf (now records)) (end - (t + 1)) (t + 1)) × Margin (read (now s) .width) (read (now s) .height) (now dst) × Backed (now s) i j (now records) (now heads) end (t + 1) (now work) ⌝ }
+    requires { ⌜ Ready (now s) i j (now mask) (now records) × Turned (now s) j (now goals) × (t < end) × (end ≤ read (now s) .horizon) × Holds (read (now s)) (now src) (hind (read (now s)) i j (constraintsOf (now records)) (end - (t + 1)) (t + 1)) × Margin (read (now s) .width) (read (now s) .height) (now dst) × Backed (now s) i j (now records) (now heads) end (t + 1) (now work) × Doors (now mask) (read (now s) .width) (read (now s) .height) true (now doors) ⌝ }
     ensures { λ _. ⌜ Holds (read (now (s .entry))) (now (dst .exit)) (hind (read (now (s .entry))) i j (constraintsOf (now (records .entry))) (end - t) t) × Backed (now (s .entry)) i j (now (records .entry)) (now (heads .entry)) end t (now (work .exit)) ⌝ }
 {
     let w = sheet::width(s);
@@ -157,6 +197,7 @@ fn back_step(
     let n = sheet::goal_count(s, j);
     layers::step(
         mask,
+        doors,
         w,
         h,
         records,
@@ -175,20 +216,20 @@ fn back_step(
     layers::keep(dst, w + 2, words, work, records.len() / 5 + t * words);
 }
 
-// The backward pass from `end`: the layers of all times up to it are kept, and the answer is whether the task can be finished
-// then.
-pub fn backward(
+// The backward pass over the ways with these doors.
+fn backward_by(
     s: &[u8],
     i: Carrier,
     j: Task,
     mask: &[u8; 1156],
+    doors: &[u8],
     goals: &[usize; 8],
     records: &[u16],
     heads: &[u16; 256],
     end: usize,
     work: &mut [u32],
 ) -> bool
-    requires { ⌜ Ready (now s) i j (now mask) (now records) × Turned (now s) j (now goals) × (end ≤ read (now s) .horizon) × Chained (now records) (i .0) (now heads) (now work) × (roomFor (now s) (now records) ≤ length (now work)) ⌝ }
+    requires { ⌜ Ready (now s) i j (now mask) (now records) × Turned (now s) j (now goals) × (end ≤ read (now s) .horizon) × Chained (now records) (i .0) (now heads) (now work) × (roomFor (now s) (now records) ≤ length (now work)) × Doors (now mask) (read (now s) .width) (read (now s) .height) true (now doors) ⌝ }
     ensures { λ r. ⌜ (r ≡ ltb (allGoals (read (now (s .entry))) j) (hind (read (now (s .entry))) i j (constraintsOf (now (records .entry))) end 0 (startOf (read (now (s .entry))) i))) × Backed (now (s .entry)) i j (now (records .entry)) (now (heads .entry)) end 0 (now (work .exit)) ⌝ }
 {
     let w = sheet::width(s);
@@ -207,6 +248,7 @@ pub fn backward(
             i,
             j,
             mask,
+            doors,
             goals,
             records,
             heads,
@@ -221,6 +263,7 @@ pub fn backward(
             i,
             j,
             mask,
+            doors,
             goals,
             records,
             heads,
@@ -238,6 +281,7 @@ pub fn backward(
             i,
             j,
             mask,
+            doors,
             goals,
             records,
             heads,
@@ -250,4 +294,30 @@ pub fn backward(
         return n < wide8(b[start]);
     }
     n < wide8(a[start])
+}
+
+// The backward pass from `end`: the layers of all times up to it are kept, and the answer is whether the task can be finished
+// then.
+pub fn backward(
+    s: &[u8],
+    i: Carrier,
+    j: Task,
+    mask: &[u8; 1156],
+    goals: &[usize; 8],
+    records: &[u16],
+    heads: &[u16; 256],
+    end: usize,
+    work: &mut [u32],
+) -> bool
+    requires { ⌜ Ready (now s) i j (now mask) (now records) × Turned (now s) j (now goals) × (end ≤ read (now s) .horizon) × Chained (now records) (i .0) (now heads) (now work) × (roomFor (now s) (now records) ≤ length (now work)) ⌝ }
+    ensures { λ r. ⌜ (r ≡ ltb (allGoals (read (now (s .entry))) j) (hind (read (now (s .entry))) i j (constraintsOf (now (records .entry))) end 0 (startOf (read (now (s .entry))) i))) × Backed (now (s .entry)) i j (now (records .entry)) (now (heads .entry)) end 0 (now (work .exit)) ⌝ }
+{
+    let wide = sheet::width(s) + 2;
+    let rows = wide * (sheet::height(s) + 1);
+    if layers::plain(mask, wide, rows) {
+        let none = [0u8; 1];
+        return backward_by(s, i, j, mask, &none[..0], goals, records, heads, end, work);
+    }
+    let doors = layers::doors(mask, wide, rows, true);
+    backward_by(s, i, j, mask, &doors, goals, records, heads, end, work)
 }

@@ -22,6 +22,7 @@ pub fn least_path(
     if c != 0 {
         return PathAnswer::Refused(c);
     }
-    let mask = mask::mask_of(s);
+    let mut mask = [0u8; 1156];
+    mask::fill(s, &mut mask);
     by_passes::least(s, i, j, &mask, 0, work, out, records)
 }

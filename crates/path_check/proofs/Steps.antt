@@ -1,14 +1,16 @@
 -- Steps and finishes: what the code tests, against the definitions. Assumes nothing.
-use Prim.Native.Nat.{ℕ, _-_, _/_, _%_, _≤_, _<_}
+use Prim.Native.Nat.{ℕ, suc, _-_, _/_, _%_, _≤_, _<_}
 use mathlib.Core.Path.{_≡_, sym}
 use mathlib.Core.Logic.{_⊎_, inl, inr, ⊎-elim}
-use mathlib.Core.Bool.{Bool, false}
+use mathlib.Core.Bool.{Bool, true, false}
 use mathlib.Core.List.{List}
 use native.Mathlib.Nat.{eq-or-lt-of-le}
 use native.Mathlib.Omega.{arith}
 use lib.ListN.{length, getD}
 use lib.Dec.{eqb}
-use Rattle.deck.specs.Paths.{oneApart, nextTo, finish}
+use borrow.Author.Tests.{eq-eqb, ne-eqb}
+use Rattle.deck.specs.Sheet.{Sheet, gridByte}
+use Rattle.deck.specs.Paths.{oneApart, nextTo, mayLeave, beside, finish}
 use Rattle.meaning.specs.Meaning.{OneApart}
 use Rattle.meaning.proofs.Tests.{Says, same-test, says-eqb, is-false}
 use Rattle.meaning.proofs.Paths.{apart-meant, next-meant}
@@ -25,6 +27,15 @@ module _ (a b : ℕ) where
   pub apart-down : b ≤ a → eqb (a - b) 1 ≡ oneApart a b
   apart-down h = same-says says-eqb (apart-meant a b) (λ (e : a - b ≡ 1). inr (omega arith)) (⊎-elim (λ e. absurd (omega arith)) (λ e. omega arith))
 
+  pub more-up : a < b → eqb (b - a) 1 ≡ eqb (suc a) b
+  more-up h = same-says says-eqb says-eqb (λ (e : b - a ≡ 1). omega arith) (λ (e : suc a ≡ b). omega arith)
+
+  pub not-more : b ≤ a → false ≡ eqb (suc a) b
+  not-more h = sym (ne-eqb (suc a) b (λ e. omega arith))
+
+turned : (a b : ℕ) → eqb a b ≡ eqb b a
+turned a b = same-says (says-eqb {a = a} {b = b}) says-eqb sym sym
+
 not-apart : (a b : ℕ) → a ≡ b → ¬ OneApart a b
 not-apart a b e = ⊎-elim (λ q. omega arith) (λ q. omega arith)
 
@@ -37,6 +48,38 @@ module _ (w u v : ℕ) where
 
   pub not-next : (u / w ≡ v / w → ⊥) → (u % w ≡ v % w → ⊥) → false ≡ nextTo w u v
   not-next n k = sym (is-false (nextTo w u v) (λ t. ⊎-elim (λ h. n (h .0)) (λ h. k (h .0)) (next-meant w u v .fact t)))
+
+-- a lane is left to one side, and any other place to every side
+module _ (w b u v : ℕ) where
+  pub leave-north : b ≡ 2 → eqb (suc (v / w)) (u / w) ≡ mayLeave w b u v
+  unfolding mayLeave
+  leave-north e = rw (eq-eqb b 2 e)
+
+  pub leave-east : b ≡ 3 → eqb (suc (u % w)) (v % w) ≡ mayLeave w b u v
+  unfolding mayLeave
+  leave-east e = rw (ne-eqb b 2 (λ q. omega arith), eq-eqb b 3 e) (turned (suc (u % w)) (v % w))
+
+  pub leave-south : b ≡ 4 → eqb (suc (u / w)) (v / w) ≡ mayLeave w b u v
+  unfolding mayLeave
+  leave-south e = rw (ne-eqb b 2 (λ q. omega arith), ne-eqb b 3 (λ q. omega arith), eq-eqb b 4 e) (turned (suc (u / w)) (v / w))
+
+  pub leave-west : b ≡ 5 → eqb (suc (v % w)) (u % w) ≡ mayLeave w b u v
+  unfolding mayLeave
+  leave-west e = rw (ne-eqb b 2 (λ q. omega arith), ne-eqb b 3 (λ q. omega arith), ne-eqb b 4 (λ q. omega arith), eq-eqb b 5 e)
+
+  pub leave-any : (b ≡ 2 → ⊥) → (b ≡ 3 → ⊥) → (b ≡ 4 → ⊥) → (b ≡ 5 → ⊥) → true ≡ mayLeave w b u v
+  unfolding mayLeave
+  leave-any n e s k = rw (ne-eqb b 2 n, ne-eqb b 3 e, ne-eqb b 4 s, ne-eqb b 5 k)
+
+-- the two tests of beside, the second only where the first holds
+module _ (d : Sheet) (u v w : ℕ) (e : w ≡ d .width) where
+  pub beside-leave : nextTo w u v ≡ true → (b : ℕ) → b ≡ gridByte d u → mayLeave w b u v ≡ beside d u v
+  unfolding beside
+  beside-leave n b g = rw (← e, n, g)
+
+  pub not-beside : nextTo w u v ≡ false → false ≡ beside d u v
+  unfolding beside
+  not-beside n = rw (← e, n)
 
 -- the path is on g from t on
 abbrev pub OnFrom : ℕ → List ℕ → ℕ → Type 0

@@ -11,7 +11,7 @@ use lib.Dec.{eqb}
 use borrow.Author.Tests.{eq-eqb, ne-eqb, le-leb, lt-leb}
 use Rattle.deck.specs.Lists.{isNil}
 use Rattle.deck.specs.Sheet.{Sheet, free, startOf, goalsOf}
-use Rattle.deck.specs.Paths.{nextTo, beside, mayStep, visit, left, finishOf, serves}
+use Rattle.deck.specs.Paths.{beside, mayStep, visit, left, finishOf, serves}
 use Rattle.deck.specs.PlanCheck.{follows, isPath}
 use Rattle.deck.specs.declared.Carrier.{Carrier}
 use Rattle.deck.specs.declared.Task.{Task}
@@ -25,9 +25,9 @@ module _ (d : Sheet) (u v : ℕ) where
   unfolding mayStep
   step-wait e = rw (eq-eqb u v e)
 
-  pub step-free : (u ≡ v → ⊥) → free d v ≡ true → (w : ℕ) → w ≡ d .width → nextTo w u v ≡ mayStep d u v
-  unfolding beside mayStep
-  step-free n f w e = rw (ne-eqb u v n, f, e)
+  pub step-free : (u ≡ v → ⊥) → free d v ≡ true → beside d u v ≡ mayStep d u v
+  unfolding mayStep
+  step-free n f = rw (ne-eqb u v n, f)
 
   pub step-shut : (u ≡ v → ⊥) → free d v ≡ false → false ≡ mayStep d u v
   unfolding mayStep

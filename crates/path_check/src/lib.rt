@@ -4,10 +4,11 @@ use deck::PathAnswer;
 use deck::Task;
 ghost use mathlib.Core.Path.{_≡_};
 ghost use Prim.Native.Nat.{suc, _<_, _≤_};
+ghost use lib.Dec.{eqb};
 ghost use lib.ListN.{length, drop};
 ghost use Rattle.deck.specs.Lists.{isNil};
 ghost use Rattle.deck.specs.Sheet.{read, cause, widthOf, horizonOf, goalsOf};
-ghost use Rattle.deck.specs.Paths.{oneApart, nextTo, mayStep, visit, left, finish as finishOn, finishOf};
+ghost use Rattle.deck.specs.Paths.{oneApart, nextTo, mayLeave, beside, mayStep, visit, left, finish as finishOn, finishOf};
 ghost use Rattle.deck.specs.PlanCheck.{follows};
 ghost use Rattle.path_check.specs.Answers.{pathAnswer};
 
@@ -24,8 +25,8 @@ fn one_apart(a: usize, b: usize) -> bool
     if a < b { b - a == 1 } else { a - b == 1 }
 }
 
-// v is beside u: next to it in the same row or column of a grid of width w.
-fn is_beside(w: usize, u: usize, v: usize) -> bool
+// v is next to u in the same row or column of a grid of width w.
+fn next_to(w: usize, u: usize, v: usize) -> bool
     requires { ⌜ 0 < w ⌝ }
     ensures { λ r. ⌜ r ≡ nextTo w u v ⌝ }
 {
@@ -34,6 +35,48 @@ fn is_beside(w: usize, u: usize, v: usize) -> bool
     }
     if u % w == v % w {
         return one_apart(u / w, v / w);
+    }
+    false
+}
+
+// b is one more than a.
+fn one_more(a: usize, b: usize) -> bool
+    ensures { λ r. ⌜ r ≡ eqb (suc a) b ⌝ }
+{
+    if a < b { b - a == 1 } else { false }
+}
+
+// A place u with the grid byte b may be left to v: a lane, which has a byte from 2 to 5, only to the north, east, south or west. The
+// bytes 0 and 1 come first: most places are no lanes.
+fn may_leave(w: usize, b: u8, u: usize, v: usize) -> bool
+    requires { ⌜ 0 < w ⌝ }
+    ensures { λ r. ⌜ r ≡ mayLeave w b u v ⌝ }
+{
+    if b < 2 {
+        return true;
+    }
+    if b == 2 {
+        return one_more(v / w, u / w);
+    }
+    if b == 3 {
+        return one_more(u % w, v % w);
+    }
+    if b == 4 {
+        return one_more(u / w, v / w);
+    }
+    if b == 5 {
+        return one_more(v % w, u % w);
+    }
+    true
+}
+
+// v is beside u, seen from u: next to it, and u may be left to it.
+fn is_beside(s: &[u8], w: usize, u: usize, v: usize) -> bool
+    requires { ⌜ (cause (now s) ≡ 0) × (w ≡ widthOf (now s)) ⌝ }
+    ensures { λ r. ⌜ r ≡ beside (read (now (s .entry))) u v ⌝ }
+{
+    if next_to(w, u, v) {
+        return may_leave(w, sheet::grid_byte(s, u), u, v);
     }
     false
 }
@@ -47,7 +90,7 @@ fn may_step(s: &[u8], w: usize, u: usize, v: usize) -> bool
         return true;
     }
     if sheet::is_free(s, v) {
-        return is_beside(w, u, v);
+        return is_beside(s, w, u, v);
     }
     false
 }

@@ -10,11 +10,11 @@ use native.Mathlib.Omega.{arith}
 use lib.Dec.{T, leb, leb→le}
 use lib.ListN.{length, getD, length-take, length-drop, List·getD-eq-default}
 use Rattle.deck.specs.Lists.{below, all, distinct, last}
-use Rattle.deck.specs.Sheet.{Sheet, Stretch, area, carrier, task, startOf, goalsOf, lastGoal, mostGoals, countOf, part, gridPair, taskPair, gridStretch, taskStretch, read, free, goalsSize, goodGrid, goodStarts, goodGoals, goodLastGoals, cause}
+use Rattle.deck.specs.Sheet.{Sheet, Stretch, area, gridByte, carrier, task, startOf, goalsOf, lastGoal, mostGoals, countOf, part, gridPair, taskPair, gridStretch, taskStretch, read, free, goalsSize, goodGrid, goodStarts, goodGoals, goodLastGoals, cause}
 use Rattle.deck.specs.Calls.{workspaceFor}
 use Rattle.deck.specs.declared.Carrier.{Carrier}
 use Rattle.deck.specs.declared.Task.{Task}
-use Rattle.meaning.proofs.Tests.{Says, says-eqb, says-leb, says-and}
+use Rattle.meaning.proofs.Tests.{Says, says-eqb, says-leb, says-and, says-not}
 use Rattle.meaning.proofs.ListTests.{says-all-at, says-distinct}
 use Rattle.meaning.proofs.Accepted.{Inside, accepted, accepted-horizon, accepted-inside, accepted-starts, header-says, directory-says}
 use Rattle.sheet_parts.proofs.Words.{length-words}
@@ -35,8 +35,8 @@ length-part : (s : List ℕ) (r : Stretch) → Inside s r → length (part s r) 
 length-part s r h = simp (length-take, length-drop) (omega arith)
 
 -- a free place is on the grid and not blocked
-pub free-says : (d : Sheet) (v : ℕ) → T (free d v) → (v < area d) × (getD (d .grid) v 0 ≡ 0)
-free-says d v t = says-and says-leb says-eqb .fact t
+pub free-says : (d : Sheet) (v : ℕ) → T (free d v) → (v < area d) × (gridByte d v ≡ 1 → ⊥)
+free-says d v t = says-and says-leb (says-not says-eqb) .fact t
 
 starts-say : (d : Sheet) → Says (goodStarts d) (T (all (free d) (d .starts)) × T (distinct (d .starts)))
 unfolding goodStarts
@@ -75,13 +75,13 @@ module _ (s : List ℕ) (ok : cause s ≡ 0) where
       length-part s (gridStretch s) (accepted-inside s ok gridPair (omega (arith, count-range)))
       ∙ directory-says s .fact (accepted s ok .directory) .0 .0 .1
 
-  pub grid-flag : (v : ℕ) → getD (read s .grid) v 0 ≤ 1
+  pub grid-byte : (v : ℕ) → gridByte (read s) v ≤ 5
   unfolding goodGrid
-  grid-flag v = go (decLe (length (read s .grid)) v)
+  grid-byte v = go (decLe (length (read s .grid)) v)
     where
-      go : Dec (length (read s .grid) ≤ v) → getD (read s .grid) v 0 ≤ 1
+      go : Dec (length (read s .grid) ≤ v) → gridByte (read s) v ≤ 5
       go (yes h) = omega (arith, List·getD-eq-default (read s .grid) 0 h)
-      go (no h) = leb→le (getD (read s .grid) v 0) 1 (all-at (λ b. leb b 1) (read s .grid) 0 (accepted s ok .grid) v (omega arith))
+      go (no h) = leb→le (gridByte (read s) v) 5 (all-at (λ b. leb b 5) (read s .grid) 0 (accepted s ok .grid) v (omega arith))
 
   -- the starts
   pub starts-length : length (read s .starts) ≡ read s .count

@@ -10,7 +10,7 @@ use sheet_parts::STARTS;
 ghost use mathlib.Core.Path.{_≡_};
 ghost use Prim.Native.Nat.{_<_, _≤_, max};
 ghost use lib.ListN.{length, getD};
-ghost use Rattle.deck.specs.Sheet.{widthOf, heightOf, countOf, horizonOf, limitOf, part, gridStretch, read, area, free, startOf, goalsOf, lastGoal, mostGoals, cause};
+ghost use Rattle.deck.specs.Sheet.{widthOf, heightOf, countOf, horizonOf, limitOf, part, gridStretch, read, area, gridByte, free, startOf, goalsOf, lastGoal, mostGoals, cause};
 ghost use Rattle.deck.specs.Calls.{workspaceFor, readCall, goalsCall};
 ghost use Rattle.sheet_parts.specs.Part.{BeginsAt};
 
@@ -130,15 +130,16 @@ pub fn grid_offset(s: &[u8]) -> usize
     sheet_parts::pair_offset(s, GRID)
 }
 
-// The grid byte of the place v, 0 past the grid. Of an accepted sheet: 0 free, 1 blocked.
+// The grid byte of the place v, 0 past the grid. Of an accepted sheet: 0 free, 1 blocked, and 2, 3, 4 or 5 a free place that may be
+// left only to the north, east, south or west.
 pub fn grid_byte(s: &[u8], v: usize) -> u8
-    ensures { λ r. ⌜ r ≡ getD (read (now (s .entry)) .grid) v 0 ⌝ }
-    ensures { λ r. ⌜ (cause (now (s .entry)) ≡ 0 → r ≤ 1) ⌝ }
+    ensures { λ r. ⌜ r ≡ gridByte (read (now (s .entry))) v ⌝ }
+    ensures { λ r. ⌜ (cause (now (s .entry)) ≡ 0 → r ≤ 5) ⌝ }
 {
     sheet_parts::cell(s, v)
 }
 
-// v is a place of the grid that is not blocked.
+// v is a place of the grid that is not blocked: its byte is 0, or 2 to 5, with which only leaving it is limited.
 pub fn is_free(s: &[u8], v: usize) -> bool
     ensures { λ r. ⌜ r ≡ free (read (now (s .entry))) v ⌝ }
 {

@@ -113,24 +113,24 @@ fn directory_good(s: &[u8]) -> bool
     sizes_good(s)
 }
 
-// No byte is above 1.
-fn flags_good(g: &[u8]) -> bool
-    ensures { λ r. ⌜ r ≡ all (λ b. leb b 1) (now (g .entry)) ⌝ }
+// No byte is above 5.
+fn bytes_good(g: &[u8]) -> bool
+    ensures { λ r. ⌜ r ≡ all (λ b. leb b 5) (now (g .entry)) ⌝ }
 {
     let n = g.len();
     for k in 0..n {
-        if 1 < g[k] {
+        if 5 < g[k] {
             return false;
         }
     }
     true
 }
 
-// No grid byte is above 1 (else cause 4).
+// No grid byte is above 5 (else cause 4).
 fn grid_good(s: &[u8]) -> bool
     ensures { λ r. ⌜ r ≡ goodGrid (read (now (s .entry))) ⌝ }
 {
-    flags_good(stretch(s, GRID))
+    bytes_good(stretch(s, GRID))
 }
 
 // Each of the two-byte places p is on the grid and not blocked.

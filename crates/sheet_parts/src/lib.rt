@@ -5,7 +5,7 @@ ghost use mathlib.Core.Path.{_≡_};
 ghost use Prim.Native.Nat.{_<_, _≤_, min};
 ghost use lib.ListN.{length, getD};
 ghost use Rattle.deck.specs.Lists.{last};
-ghost use Rattle.deck.specs.Sheet.{byteAt, wordAt, widthOf, heightOf, countOf, horizonOf, limitOf, part, pairAt, pairsFor, directoryEnd, words, read, area, free, goalsOf};
+ghost use Rattle.deck.specs.Sheet.{byteAt, wordAt, widthOf, heightOf, countOf, horizonOf, limitOf, part, pairAt, pairsFor, directoryEnd, words, read, area, gridByte, free, goalsOf};
 ghost use Rattle.sheet_parts.specs.Part.{BeginsAt, taskPart};
 
 // Where the header's values stand: a byte each, and two for the node limit.
@@ -197,7 +197,7 @@ pub fn area(s: &[u8]) -> usize
 
 // The grid byte of the place v, 0 past the grid.
 pub fn cell(s: &[u8], v: usize) -> u8
-    ensures { λ r. ⌜ r ≡ getD (read (now (s .entry)) .grid) v 0 ⌝ }
+    ensures { λ r. ⌜ r ≡ gridByte (read (now (s .entry))) v ⌝ }
 {
     let g = stretch(s, GRID);
     if v < g.len() { g[v] } else { 0 }
@@ -207,5 +207,5 @@ pub fn cell(s: &[u8], v: usize) -> u8
 pub fn free_place(s: &[u8], v: usize) -> bool
     ensures { λ r. ⌜ r ≡ free (read (now (s .entry))) v ⌝ }
 {
-    if v < area(s) { cell(s, v) == 0 } else { false }
+    if v < area(s) { cell(s, v) != 1 } else { false }
 }

@@ -91,15 +91,22 @@ fn free_places(s: &[u8], n: usize) -> usize {
     count
 }
 
-// How many of the first n places are blocked.
-fn blocked_places(s: &[u8], n: usize) -> usize {
+// How many of the first n places have the grid byte b.
+fn places_with(s: &[u8], n: usize, b: u8) -> usize {
     let mut count = 0;
     for v in 0..n {
-        if sheet::grid_byte(s, v) == 1 {
+        if sheet::grid_byte(s, v) == b {
             count += 1;
         }
     }
     count
+}
+
+// How many places are blocked, and how many are lanes to the north, east, south and west.
+fn marks(s: &[u8]) {
+    for b in 1..6u8 {
+        put(places_with(s, 1024, b));
+    }
 }
 
 fn accepted(s: &[u8], r: Reading) {
@@ -109,7 +116,7 @@ fn accepted(s: &[u8], r: Reading) {
     tasks(s, r.count);
     part();
     put(free_places(s, 1024));
-    put(blocked_places(s, 1024));
+    marks(s);
     put(sheet::workspace(s));
 }
 

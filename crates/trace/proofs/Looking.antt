@@ -19,16 +19,17 @@ use Rattle.kernel.specs.Goals.{up}
 use Rattle.kernel.specs.Labels.{allGoals, firstLabel, raised}
 use Rattle.kernel.specs.Parts.{freeMove, stepFree}
 use Rattle.kernel.specs.Kernel.{hind, onward}
-use Rattle.kernel.proofs.Both.{and-left, and-turned}
+use Rattle.kernel.proofs.Both.{and-left, and-right, and-both, and-turned}
 use Rattle.kernel.proofs.OfTask.{first-label-is, raised-is}
 use Rattle.kernel.proofs.OfSheet.{step-free-meant}
 use Rattle.bars.specs.Padded.{padOf}
-use Rattle.bars.specs.Ways.{turnOf, moveBy}
+use Rattle.bars.specs.Ways.{opensBy, turnOf, moveBy}
+use Rattle.bars.proofs.Gates.{all-open}
 use Rattle.bars.proofs.Grid.{pad-inj}
 use Rattle.layers.specs.Packed.{keptAt}
 use Rattle.layers.specs.Raise.{GoalsAt}
 use Rattle.trace.specs.declared.Look.{Look}
-use Rattle.trace.specs.Along.{Visited, spotOf, wayOn}
+use Rattle.trace.specs.Along.{Visited, spotOf, wayOn, leadsOn, FirstWay}
 
 -- a label is raised as far as the goals in front are the place
 up-run : (gs : List ℕ) (v k r : ℕ) → k ≤ r → r ≤ length gs → ((m : ℕ) → k ≤ m → m < r → getD gs m 0 ≡ v) → (r < length gs → getD gs r 0 ≢ v) → r ≡ up v gs k
@@ -60,11 +61,13 @@ pub way-onward : (d : Sheet) (i : Carrier) (j : Task) (cs : List Constraint) (n 
 unfolding onward
 way-onward d i j cs n t u k q m h e = rw (e, is-true (stepFree d u q) h) (and-turned (ltb (allGoals d j) (k + hind d i j cs n (suc t) q)) (freeMove i cs t u q))
 
--- the trace goes to free places
-pub onward-free : (d : Sheet) (i : Carrier) (j : Task) (cs : List Constraint) (n t u k q : ℕ) → T (onward d i j cs n t u k q) → T (free d q)
+-- the trace goes by allowed steps, and to free places
+pub onward-step : (d : Sheet) (i : Carrier) (j : Task) (cs : List Constraint) (n t u k q : ℕ) → T (onward d i j cs n t u k q) → T (stepFree d u q)
 unfolding onward
-onward-free d i j cs n t u k q h =
-    free-meant d q .test (step-free-meant d u q .fact (and-left (stepFree d u q) (freeMove i cs t u q) (and-left (stepFree d u q && freeMove i cs t u q) _ h)) .1 .0)
+onward-step d i j cs n t u k q h = and-left (stepFree d u q) (freeMove i cs t u q) (and-left (stepFree d u q && freeMove i cs t u q) _ h)
+
+pub onward-free : (d : Sheet) (i : Carrier) (j : Task) (cs : List Constraint) (n t u k q : ℕ) → T (onward d i j cs n t u k q) → T (free d q)
+onward-free d i j cs n t u k q h = free-meant d q .test (step-free-meant d u q .fact (onward-step d i j cs n t u k q h) .1 .0)
 
 -- what the code finds by the way x
 module _ (mask rs work : List ℕ) (l : Look) (x : ℕ) where
@@ -85,3 +88,18 @@ module _ (mask rs work : List ℕ) (l : Look) (x : ℕ) where
       pub way-goes : l .n < l .k + b → (r : ℕ) → r ≡ turnOf (l .w) x → {a : Bool} → a ≡ freeMove (l .i) (constraintsOf rs) (l .t) (l .u) (l .u + r - l .w)
           → a ≡ wayOn mask rs work l x
       way-goes h r er ea = rw (open-is, lt-ltb (l .n) (l .k + b) h) (ea ∙ rw er refl)
+
+  -- the place itself may be left that way, or not
+  pub leads-open : {o : Bool} → o ≡ opensBy (getD mask (l .p) 0) x → o ≡ true → leadsOn mask rs work l x ≡ wayOn mask rs work l x
+  leads-open e h = rw (← e, h) refl
+
+  pub leads-shut : {o : Bool} → o ≡ opensBy (getD mask (l .p) 0) x → o ≡ false → false ≡ leadsOn mask rs work l x
+  leads-shut e h = rw (← e, h) refl
+
+-- where the place is no lane, the first way that leads on is one by which it may be left
+pub first-open : (mask rs work : List ℕ) (l : Look) (r : ℕ) → getD mask (l .p) 0 ≡ 255 → FirstWay (wayOn mask rs work l) r → FirstWay (leadsOn mask rs work l) r
+first-open mask rs work l r e f = record {
+  within = f .within;
+  before = λ y b h. f .before y b (and-right (opensBy (getD mask (l .p) 0) y) (wayOn mask rs work l y) h);
+  passes = λ b. and-both (opensBy (getD mask (l .p) 0) r) (wayOn mask rs work l r) (rw e (all-open r b)) (f .passes b);
+}

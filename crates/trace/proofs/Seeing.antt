@@ -23,18 +23,18 @@ use Rattle.kernel.specs.Parts.{freeMove}
 use Rattle.kernel.specs.Kernel.{hind, onward, OnTime}
 use Rattle.kernel.proofs.Both.{and-left, and-right, and-both}
 use Rattle.bars.specs.Padded.{padOf, Gate}
-use Rattle.bars.specs.Ways.{turnOf, placeBy, hasBy}
-use Rattle.bars.proofs.Gates.{gate-shut, gate-open}
+use Rattle.bars.specs.Ways.{turnOf, placeBy, hasBy, leaves, opensBy}
+use Rattle.bars.proofs.Gates.{opens-shade, gate-shut, gate-open}
 use Rattle.bars.proofs.Grid.{pad-least, pad-most, size-of, size-small}
-use Rattle.bars.proofs.Leads.{turn-most, leads, mask-by, step-by, first-by, no-first, leaves-any}
+use Rattle.bars.proofs.Leads.{turn-most, leads, mask-by, step-by, first-by, no-first}
 use Rattle.layers.specs.Packed.{keptAt}
 use Rattle.layers.proofs.Keeping.{byte-in}
 use Rattle.passes.specs.Ready.{Ready, layerAt, Backed}
 use Rattle.passes.proofs.Given.{wide-one, wide-most, high-most, horizon-most, few-labels, few-records, pad-small}
 use Rattle.passes.proofs.Backing.{layer-in, times-words}
 use Rattle.trace.specs.declared.Look.{Look}
-use Rattle.trace.specs.Along.{spotOf, byteOf, wayOn, FirstWay, Sees, Inside}
-use Rattle.trace.proofs.Looking.{way-onward, onward-free}
+use Rattle.trace.specs.Along.{spotOf, byteOf, leadsOn, FirstWay, Sees, Inside}
+use Rattle.trace.proofs.Looking.{way-onward, onward-step, onward-free}
 
 module _ (s : List ℕ) (i : Carrier) (j : Task) (mask rs : List ℕ) (r : Ready s i j mask rs) (heads work : List ℕ) (end t u k : ℕ) (bk : Backed s i j rs heads end 0 work)
     (l : t < end) (m : end ≤ read s .horizon) (o : OnTime (read s) i j (constraintsOf rs) (end - t) t u k) where
@@ -53,7 +53,7 @@ module _ (s : List ℕ) (i : Carrier) (j : Task) (mask rs : List ℕ) (r : Ready
 
   pub record Seen (w at p n : ℕ) : Type 0 where
     pub sees : Sees mask rs heads work (look w at p n)
-    pub ways : (x : ℕ) → x < 5 → wayOn mask rs work (look w at p n) x ≡ (hasBy d u x && goes (placeBy d u x))
+    pub ways : (x : ℕ) → x < 5 → leadsOn mask rs work (look w at p n) x ≡ (hasBy d u x && goes (placeBy d u x))
 
   on : u < area d
   on = free-meant d u .fact (o .on-free) .on-grid
@@ -83,33 +83,45 @@ module _ (s : List ℕ) (i : Carrier) (j : Task) (mask rs : List ℕ) (r : Ready
       let h = gate-open (hasBy d u x && free d (placeBy d u x)) (gate x b) n in
       (and-left (hasBy d u x) (free d (placeBy d u x)) h, and-right (hasBy d u x) (free d (placeBy d u x)) h)
 
-  -- a way that the mask leaves open
-  open-goes : (x : ℕ) → x < 5 → opened x ≢ 0
+  -- by which ways the mask lets the place itself be left
+  leaves-here : (x : ℕ) → x < 5 → opensBy (getD mask (padOf (d .width) u) 0) x ≡ leaves d u x
+  leaves-here x b = rw (r .masked .inside u on, opens-shade d u x b, is-true (free d u) (o .on-free)) refl
+
+  -- the place by the way x is free, and this one may be left that way
+  open-goes : (x : ℕ) → x < 5 → T (hasBy d u x) → T (free d (placeBy d u x)) → leaves d u x ≡ true
       → (ltb many (k + keptAt work place (byteOf here x)) && freeMove i (constraintsOf rs) t u (placeBy d u x)) ≡ goes (placeBy d u x)
-  open-goes x b n =
-      let h = open-both x b n in
-      let a = leads d u on x b (h .0) in
+  open-goes x b h f e =
+      let a = leads d u on x b h in
       let v : ℕ = placeBy d u x in
       way-onward d i j (constraintsOf rs) (end - (t + 1)) t u k v (keptAt work place (byteOf here x))
-      (rw (step-by d u on x b (h .0), leaves-any d u x) (and-both (free d u) (free d v) (o .on-free) (h .1)))
+      (rw (step-by d u on x b h, e) (and-both (free d u) (free d v) (o .on-free) f))
       (ap (λ (y : ℕ). keptAt work place (y - (d .width + 2))) (sym (a .padded))
       ∙ subst (λ (y : ℕ). keptAt work place (padOf (d .width) v - (d .width + 2)) ≡ hind d i j (constraintsOf rs) (end - (t + 1)) y v) (add-one t)
       (bk .layers (t + 1) (omega arith) (omega arith) v (a .inside)))
 
-  by-way : (x : ℕ) → x < 5 → wayOn mask rs work here x ≡ (hasBy d u x && goes (placeBy d u x))
-  by-way x b = go (eqb (opened x) 0) refl
+  -- it may not be left that way
+  closed-goes : (x : ℕ) → x < 5 → T (hasBy d u x) → leaves d u x ≡ false → goes (placeBy d u x) ≡ false
+  closed-goes x b h e =
+      is-false (goes (placeBy d u x))
+      (λ g. subst T e (and-left (leaves d u x) _ (subst T (step-by d u on x b h) (onward-step d i j (constraintsOf rs) (end - (t + 1)) t u k (placeBy d u x) g))))
+
+  by-way : (x : ℕ) → x < 5 → leadsOn mask rs work here x ≡ (hasBy d u x && goes (placeBy d u x))
+  by-way x b = rw (leaves-here x b) (go (leaves d u x) refl (eqb (opened x) 0) refl)
     where
       v : ℕ
       v = placeBy d u x
 
-      go : (z : Bool) → eqb (opened x) 0 ≡ z → (not z && (ltb many (k + keptAt work place (byteOf here x)) && freeMove i (constraintsOf rs) t u v)) ≡ (hasBy d u x && goes v)
-      go true e = sym (is-false (hasBy d u x && goes v) (λ h.
+      go : (y : Bool) → leaves d u x ≡ y → (z : Bool) → eqb (opened x) 0 ≡ z
+          → (y && (not z && (ltb many (k + keptAt work place (byteOf here x)) && freeMove i (constraintsOf rs) t u v))) ≡ (hasBy d u x && goes v)
+      go false f z e = sym (is-false (hasBy d u x && goes v) (λ h. subst T (closed-goes x b (and-left (hasBy d u x) (goes v) h) f) (and-right (hasBy d u x) (goes v) h)))
+      go true f true e = sym (is-false (hasBy d u x && goes v) (λ h.
           gate-shut (hasBy d u x && free d v) (gate x b) (eqb-true (opened x) 0 e)
           (and-both (hasBy d u x) (free d v) (and-left (hasBy d u x) (goes v) h)
           (onward-free d i j (constraintsOf rs) (end - (t + 1)) t u k v (and-right (hasBy d u x) (goes v) h)))))
-      go false e =
+      go true f false e =
           let n : opened x ≢ 0 = λ q. absurd (false≢true (sym e ∙ eq-eqb (opened x) 0 q)) in
-          rw (is-true (hasBy d u x) (open-both x b n .0)) (open-goes x b n)
+          let h = open-both x b n in
+          rw (is-true (hasBy d u x) (h .0)) (open-goes x b (h .0) (h .1) f)
 
   seen : Seen (d .width) place (padOf (d .width) u) many
   seen = record {
@@ -142,7 +154,7 @@ module _ (s : List ℕ) (i : Carrier) (j : Task) (mask rs : List ℕ) (r : Ready
       (subst (λ (x : ℕ). Seen w x (padOf (d .width) u) many) (sym ea) (subst (λ (x : ℕ). Seen x place (padOf (d .width) u) many) (sym ew) seen)))
 
   -- the way that is found leads to the next place
-  module _ {w at p n : ℕ} (q : Seen w at p n) (ew : w ≡ d .width) {x : ℕ} (f : FirstWay (wayOn mask rs work (look w at p n)) x) where
+  module _ {w at p n : ℕ} (q : Seen w at p n) (ew : w ≡ d .width) {x : ℕ} (f : FirstWay (leadsOn mask rs work (look w at p n)) x) where
     passed : (y : ℕ) → y < x → ¬ T (hasBy d u y && goes (placeBy d u y))
     passed y b h = f .before y b (subst T (sym (q .ways y (omega (arith, f .within)))) h)
 

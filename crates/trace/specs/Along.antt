@@ -9,7 +9,7 @@ use lib.Dec.{T, eqb, ltb}
 use Rattle.deck.specs.Calls.{constraintsOf}
 use Rattle.kernel.specs.Parts.{freeMove}
 use Rattle.bars.specs.Bars.{countIn, Chained}
-use Rattle.bars.specs.Ways.{turnOf, moveBy}
+use Rattle.bars.specs.Ways.{opensBy, turnOf, moveBy}
 use Rattle.layers.specs.Packed.{keptAt}
 use Rattle.trace.specs.declared.Look.{Look}
 
@@ -32,6 +32,10 @@ abbrev pub wayOn : List ℕ → List ℕ → List ℕ → Look → ℕ → Bool
 wayOn mask rs work l x =
     not (eqb (getD mask (spotOf l x) 0) 0)
     && (ltb (l .n) (l .k + keptAt work (l .at) (byteOf l x)) && freeMove (l .i) (constraintsOf rs) (l .t) (l .u) (moveBy (l .w) (l .u) x))
+
+-- and the place itself may be left that way
+abbrev pub leadsOn : List ℕ → List ℕ → List ℕ → Look → ℕ → Bool
+leadsOn mask rs work l x = opensBy (getD mask (l .p) 0) x && wayOn mask rs work l x
 
 -- r is the first of the five ways that passes the test, and 5 where none does
 pub record FirstWay (ok : ℕ → Bool) (r : ℕ) : Type 0 where

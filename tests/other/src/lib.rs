@@ -38,9 +38,18 @@ pub fn kinds() -> impl Iterator<Item = &'static str> {
     KINDS.into_iter().chain(later.into_iter().filter_map(|(kind, made)| made.then_some(kind)))
 }
 
-/// A sheet of one of these kinds; it may use what the changes in force bring.
+/// A sheet of one of these kinds. Of every four seeds two may use what the changes in force bring, and two use nothing of it, so that
+/// the sheets of document 01 are compared as well; bad sheets, and the kinds of a change, always may.
 pub fn generated(kind: &str, seed: u64) -> Vec<u8> {
+    if kind != "damaged" && KINDS.contains(&kind) && seed / 2 % 2 == 0 {
+        return plain(kind, seed);
+    }
     gen_changes::input(RULES, kind, seed).expect("a kind of the generator")
+}
+
+/// Whether it is an accepted sheet with a lane.
+pub fn has_lanes(bytes: &[u8]) -> bool {
+    naive::read(RULES.changes(), bytes).is_ok_and(|plain| plain.grid.iter().any(|&byte| byte > 1))
 }
 
 /// A sheet of one of document 01's kinds that uses nothing of document 02, in the form that the changes in force give it.

@@ -2,19 +2,33 @@
 
 use std::hint::black_box;
 
-use compare::inputs::{records_against, table, Map};
+use compare::inputs::{records_against, table, with_limit, Map};
 use other::gen::Rng;
 use other::sheet::{read_sheet, Carrier, Task};
-use other::{assign, path, plain, PLENTY, RULES};
+use other::{assign, check, path, plain, PLENTY, RULES};
 
 use crate::Case;
+
+/// Lanes per hundred free places, on the maps that have any.
+const LANES: usize = 20;
 
 /// A case by name, made only where it is wanted.
 pub type Named = (String, Box<dyn FnOnce() -> Case>);
 
 pub fn all() -> Vec<Named> {
-    let map =
-        |side, blocked, carriers, goals, horizon| Map { side, blocked, carriers, goals, horizon, limit: 16 };
+    let map = |side, blocked, carriers, goals, horizon| Map {
+        side,
+        blocked,
+        lanes: 0,
+        carriers,
+        goals,
+        horizon,
+        limit: 16,
+    };
+    let lanes = move |side, blocked, carriers, goals, horizon| Map {
+        lanes: LANES,
+        ..map(side, blocked, carriers, goals, horizon)
+    };
     let mut cases = vec![
         named("path 8x8 H 30 K 2", move || paths(map(8, 0, 4, 2, 30), 0)),
         named("path 20x20 30% blocked H 100 K 2", move || paths(map(20, 30, 10, 2, 100), 0)),
@@ -22,6 +36,14 @@ pub fn all() -> Vec<Named> {
         named("path 32x32 H 255 K 1", move || paths(map(32, 0, 12, 1, 255), 0)),
         named("path 32x32 10% H 255 K 8, 50 records", move || paths(map(32, 10, 12, 8, 255), 50)),
         named("path 32x32 10% H 255 K 8, 4096 records", move || paths(map(32, 10, 12, 8, 255), 4096)),
+        named("path 8x8 H 30 K 2, lanes", move || paths(lanes(8, 0, 4, 2, 30), 0)),
+        named("path 20x20 30% blocked H 100 K 2, lanes", move || paths(lanes(20, 30, 10, 2, 100), 0)),
+        named("path 32x32 H 255 K 8, lanes", move || paths(lanes(32, 0, 12, 8, 255), 0)),
+        named("path 32x32 10% H 255 K 8, 50 records, lanes", move || paths(lanes(32, 10, 12, 8, 255), 50)),
+        named("plan check 32x32 10%, 12 carriers H 255 K 8", move || checks(map(32, 10, 12, 8, 255))),
+        named("plan check 32x32 10%, 12 carriers H 255 K 8, lanes", move || {
+            checks(lanes(32, 10, 12, 8, 255))
+        }),
         named("assignment 12x12, entries to 1000", || assignments(1000, 0)),
         named("assignment 12x12, entries to 3", || assignments(3, 0)),
         named("assignment 12x12, half barred", || assignments(300, 50)),
@@ -85,6 +107,34 @@ fn paths(map: Map, records: usize) -> Case {
     }
 }
 
+/// Plan checks of plans that a search found.
+fn checks(map: Map) -> Case {
+    let mut rng = Rng::new(15);
+    let (mut work, mut plans) = (vec![0; PLENTY], Vec::new());
+    while plans.len() < 6 {
+        let sheet = with_limit(&map.sheet(&mut rng), 4096);
+        let mut paths = vec![0; map.carriers * (map.horizon + 1)];
+        let numbers = compare::search(&sheet, &mut work, &mut paths);
+        if numbers[1] == 0 {
+            let tasks: [u8; 12] = std::array::from_fn(|i| numbers[5 + i] as u8);
+            plans.push((sheet, tasks, paths));
+        }
+    }
+    let same = plans.clone();
+    Case {
+        inputs: plans.len(),
+        varied: false,
+        ours: Box::new(move |k| {
+            let (sheet, tasks, paths) = &plans[k];
+            black_box(compare::check_plan(sheet, tasks, paths));
+        }),
+        theirs: Box::new(move |k| {
+            let (sheet, tasks, paths) = &same[k];
+            black_box(check::check_plan(RULES, sheet, tasks, paths));
+        }),
+    }
+}
+
 fn assignments(most: usize, barred: usize) -> Case {
     let mut rng = Rng::new(12);
     let tables: Vec<Vec<u16>> = (0..40).map(|_| table(12, most, barred, &mut rng)).collect();
@@ -126,12 +176,18 @@ fn searches() -> Vec<Named> {
         let sheets = move || (0..count).map(|seed| plain(kind, seed)).collect();
         named(&format!("search {kind}"), move || whole(sheets()))
     });
-    let maps = [("20x20 30%", 20, 30, 100), ("32x32 10%", 32, 10, 160), ("32x32", 32, 0, 160)];
-    let maps = maps.into_iter().flat_map(|(name, side, blocked, horizon)| {
+    let maps = [
+        ("20x20 30%", 20, 30, 0, 100),
+        ("32x32 10%", 32, 10, 0, 160),
+        ("32x32", 32, 0, 0, 160),
+        ("20x20 30% lanes", 20, 30, LANES, 100),
+        ("32x32 10% lanes", 32, 10, LANES, 160),
+    ];
+    let maps = maps.into_iter().flat_map(|(name, side, blocked, lanes, horizon)| {
         [300, 4096].map(|limit| {
             let sheets = move || {
                 let mut rng = Rng::new(13);
-                let map = |carriers| Map { side, blocked, carriers, goals: 2, horizon, limit };
+                let map = |carriers| Map { side, blocked, lanes, carriers, goals: 2, horizon, limit };
                 (0..12).map(|k| map(10 + k % 3).sheet(&mut rng)).collect()
             };
             named(&format!("search {name} K 2, limit {limit}"), move || whole(sheets()))

@@ -14,10 +14,15 @@ pub fn print() {
         "\n{:<40} {:>6} {:>10} {:>10}  {:>6}",
         "time of a node", "nodes", "ours µs", "other µs", "ratio"
     );
-    let maps =
-        [("20x20 30% K 2", 20, 30, 100), ("32x32 10% K 2", 32, 10, 160), ("12x12 10% K 2", 12, 10, 60)];
-    for (name, side, blocked, horizon) in maps {
-        let map = Map { side, blocked, carriers: 12, goals: 2, horizon, limit: 4096 };
+    let maps = [
+        ("20x20 30% K 2", 20, 30, 0, 100),
+        ("32x32 10% K 2", 32, 10, 0, 160),
+        ("12x12 10% K 2", 12, 10, 0, 60),
+        ("20x20 30% K 2, 20% lanes", 20, 30, 20, 100),
+        ("32x32 10% K 2, 20% lanes", 32, 10, 20, 160),
+    ];
+    for (name, side, blocked, lanes, horizon) in maps {
+        let map = Map { side, blocked, lanes, carriers: 12, goals: 2, horizon, limit: 4096 };
         of(name, (0..400).map(|seed| map.sheet(&mut Rng::new(500 + seed))));
     }
     of("20x20 K 1, two carriers stuck", [stuck(20, 60, &mut Rng::new(5))].into_iter());

@@ -18,11 +18,19 @@ pub struct Tally {
     failed: u64,
     /// How often each kind of answer came.
     kinds: BTreeMap<String, u64>,
+    /// How many of the comparisons were on sheets with lanes.
+    lanes: u64,
     /// The first failures, in words.
     seen: Vec<String>,
 }
 
 impl Tally {
+    /// One comparison on this sheet, of an answer of this kind.
+    pub fn count_on(&mut self, sheet: &[u8], ok: bool, kind: String, what: impl Fn() -> String) {
+        self.lanes += u64::from(other::has_lanes(sheet));
+        self.count(ok, kind, what);
+    }
+
     /// One comparison, of an answer of this kind.
     pub fn count(&mut self, ok: bool, kind: String, what: impl Fn() -> String) {
         *self.kinds.entry(kind).or_default() += 1;
@@ -85,12 +93,14 @@ fn main() -> ExitCode {
         for line in tallies.iter().flat_map(|tally| &tally.seen) {
             println!("{name}: {line}");
         }
+        let lanes: u64 = tallies.iter().map(|tally| tally.lanes).sum();
         let mut kinds = BTreeMap::new();
         for (kind, count) in tallies.into_iter().flat_map(|tally| tally.kinds) {
             *kinds.entry(kind).or_insert(0) += count;
         }
         let kinds: Vec<String> = kinds.iter().map(|(kind, count)| format!("{kind} {count}")).collect();
-        println!("{name} ({}): {good} passed, {bad} failed", kinds.join(", "));
+        let lanes = if lanes > 0 { format!("; with lanes {lanes}") } else { String::new() };
+        println!("{name} ({}{lanes}): {good} passed, {bad} failed", kinds.join(", "));
         passed += good;
         failed += bad;
     }

@@ -157,7 +157,7 @@ fn one(
     let stays = ours[0] == 0 || before.is_none_or(|before| before[..] == lent.work[..words + PAST]);
     let past = lent.work[words..words + PAST] == guard;
     let ok = ours == numbers && lent.out == expected && stays && past;
-    tally.count(ok, kind_of(&ours, "found", "none"), || {
+    tally.count_on(bytes, ok, kind_of(&ours, "found", "none"), || {
         format!("{}, carrier {carrier} task {task}, {} records, {words} and {places} words: {ours:?} for {numbers:?}", name(), records.len())
     });
 }

@@ -102,7 +102,7 @@ fn variants(
 fn one(tally: &mut Tally, bytes: &[u8], tasks: &[u8; 12], paths: &[u16], name: &impl Fn() -> String) {
     let ours = check_plan(bytes, tasks, paths);
     let numbers = check_numbers(&check::check_plan(RULES, bytes, tasks, paths));
-    tally.count(ours == numbers, kind_of(&ours, "yes", "no"), || {
+    tally.count_on(bytes, ours == numbers, kind_of(&ours, "yes", "no"), || {
         format!("{}: {ours:?} for {numbers:?}", name())
     });
 }

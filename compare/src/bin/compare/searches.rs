@@ -44,7 +44,7 @@ pub fn run(share: &Share) -> Tally {
             let limit = LIMITS[seed as usize % LIMITS.len()];
             one(&mut tally, &mut lent, &with_limit(&bytes, limit), 5, 3, &|| name(limit));
             short(&mut tally, &mut lent, &bytes, &|| name(own));
-            if kind == "tiny" {
+            if kind == "tiny" || kind == "lanes" && is_tiny(&bytes) {
                 least(&mut tally, &mut lent, &with_limit(&bytes, 4096), &|| name(4096));
             }
             if matches!(kind, "small" | "corridor" | "swap" | "crowd" | "ties") && seed < 30 {
@@ -64,9 +64,10 @@ pub fn run(share: &Share) -> Tally {
     }
     for seed in share.seeds(6) {
         for (side, blocked, horizon) in [(20, 30, 100), (32, 10, 160), (32, 0, 160)] {
-            let map = Map { side, blocked, carriers: 10, goals: 2, horizon, limit: 600 };
+            let lanes = if seed % 3 == 0 { 20 } else { 0 };
+            let map = Map { side, blocked, lanes, carriers: 10, goals: 2, horizon, limit: 600 };
             let bytes = map.sheet(&mut Rng::new(300 + seed));
-            one(&mut tally, &mut lent, &bytes, 0, 0, &|| format!("map {side} {blocked} {seed}"));
+            one(&mut tally, &mut lent, &bytes, 0, 0, &|| format!("map {side} {blocked} {lanes} {seed}"));
         }
     }
     // Many roots, among children and alone.
@@ -80,6 +81,11 @@ pub fn run(share: &Share) -> Tally {
         }
     }
     tally
+}
+
+/// A sheet that is small enough for every joint state.
+fn is_tiny(bytes: &[u8]) -> bool {
+    read_sheet(RULES, bytes).is_ok_and(|sheet| sheet.area() <= 9 && sheet.horizon <= 7 && sheet.m <= 3)
 }
 
 /// Both with buffers that are `more` words longer than asked for.
@@ -128,7 +134,9 @@ fn call(
     let kinds = ["plan", "none", "spent"];
     let kind =
         kinds.get(ours[1] as usize).map_or_else(|| format!("cause {}", ours[0]), |kind| kind.to_string());
-    tally.count(ok, kind, || format!("{}, {words} and {places} words: {ours:?} for {numbers:?}", name()));
+    tally.count_on(bytes, ok, kind, || {
+        format!("{}, {words} and {places} words: {ours:?} for {numbers:?}", name())
+    });
     ours
 }
 
@@ -142,7 +150,7 @@ fn least(tally: &mut Tally, lent: &mut Lent, bytes: &[u8], name: &dyn Fn() -> St
         1 => optimum.is_none(),
         _ => optimum.is_none_or(|least| ours[4] <= least),
     };
-    tally.count(ok, "least flowtime".to_string(), || {
+    tally.count_on(bytes, ok, "least flowtime".to_string(), || {
         format!("{}: {ours:?}, least flowtime {optimum:?}", name())
     });
 }

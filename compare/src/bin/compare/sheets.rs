@@ -48,5 +48,7 @@ fn one(tally: &mut Tally, bytes: &[u8], name: impl Fn() -> String) {
         let offset = goals.as_ptr() as usize - bytes.as_ptr() as usize;
         ok &= task_goals(bytes, task) == [offset, goals.len()];
     }
-    tally.count(ok, format!("cause {number}"), || format!("{}: cause {} for {number}", name(), cause(bytes)));
+    tally.count_on(bytes, ok, format!("cause {number}"), || {
+        format!("{}: cause {} for {number}", name(), cause(bytes))
+    });
 }

@@ -1,8 +1,8 @@
-//! `sheet_test`: the cause, the header, the directory's pairs, the starts, of each task the goals as bytes and as places, the numbers of
-//! free and of blocked places, and the workspace.
+//! `sheet_test`: the cause, the header, the directory's pairs, the starts, of each task the goals as bytes and as places, the number of
+//! free places, the numbers of blocked places and of lanes by direction, and the workspace.
 
 use other::sheet::{read_sheet, task_goals, Carrier, Sheet, Task};
-use other::RULES;
+use other::{naive, RULES};
 
 use crate::case::{spaced, word_at, Cases};
 
@@ -36,8 +36,9 @@ fn accepted(sheet: &Sheet) -> String {
     let starts = spaced((0..sheet.m).map(|i| sheet.start(Carrier(i))));
     let tasks: String = (0..=sheet.m).map(|j| task(sheet, j)).collect();
     let free = (0..sheet.area()).filter(|&place| sheet.is_free(place)).count();
-    let counts = spaced([free, sheet.area() - free, sheet.workspace_words()]);
-    format!("0{header} /{} /{starts}{tasks} /{counts}", spaced(pairs))
+    let grid = naive::read(RULES.changes(), sheet.bytes()).expect("an accepted sheet").grid;
+    let marked = spaced((1..=5).map(|mark| grid.iter().filter(|&&byte| byte == mark).count()));
+    format!("0{header} /{} /{starts}{tasks} / {free}{marked} {}", spaced(pairs), sheet.workspace_words())
 }
 
 /// As bytes and as places, and the last of them once more; 0 where there is none.

@@ -5,10 +5,13 @@ use Rattle.bounds.proofs.distances.Statement.{statement}
 use Rattle.bounds.proofs.distances.Tie as tie
 
 abbrev Inv-loop : tie.InvT-loop
-Inv-loop mask wide goal base dist₀ queue₀ head₀ tail₀ dist queue head tail = tail ≤ 1024
+Inv-loop mask wide end goal base dist₀ queue₀ head₀ tail₀ dist queue head tail = tail ≤ 1024
 
 abbrev μ-loop : tie.MeasureT-loop
-μ-loop mask wide goal base dist₀ queue₀ head₀ tail₀ dist queue head tail = 1024 - head
+μ-loop mask wide end goal base dist₀ queue₀ head₀ tail₀ dist queue head tail = 1024 - head
+
+none-marked-requires : tie.Need-none-marked-requires Inv-loop μ-loop
+none-marked-requires c κs = search needs
 
 array-write-dist : tie.Need-array-write-dist Inv-loop μ-loop
 array-write-dist c = search needs
@@ -52,6 +55,7 @@ distances-spec =
     (tie.spec
     Inv-loop
     μ-loop
+    none-marked-requires
     array-write-dist
     cast-queue
     array-write-queue

@@ -1,76 +1,71 @@
--- `finishes::column` meets its contract: the layers passed are marked. Assumes nothing.
+-- `finishes::column` meets its contract, with and without lanes. Assumes nothing.
+use borrow.Author.Needs.{needs}
 use native.Mathlib.Omega.{arith}
-use Prim.Native.Nat.{ℕ, _+_, _-_}
-use mathlib.Core.Path.{_≡_, refl, subst}
-use lib.ListN.{length}
-use Rattle.deck.specs.Sheet.{read}
-use Rattle.sheet.proofs.Accepted.{horizon-range}
-use Rattle.finishes.specs.Entries.{Passing}
-use Rattle.finishes.proofs.Sweeps.{turned-of, passing-first}
+use mathlib.Core.Path.{refl}
+use mathlib.Core.Bool.{true}
+use mathlib.Core.List.{[]}
+use Rattle.layers.proofs.Gating.{given-plain, given-doors}
+use Rattle.finishes.proofs.Sweeps.{rows-of}
 use Rattle.finishes.proofs.column.Statement.{statement}
 use Rattle.finishes.proofs.column.Tie as tie
 
-abbrev Inv-loop : tie.InvT-loop
-Inv-loop s j mask starts turned a₀ b₀ entries₀ k₀ a b entries k = Passing s j k a b entries × (length entries ≡ 12)
+width-requires : tie.Need-width-requires
+width-requires c κs = search needs
 
-abbrev μ-loop : tie.MeasureT-loop
-μ-loop s j mask starts turned a₀ b₀ entries₀ k₀ a b entries k = read s .horizon - k
+add-wide : tie.Need-add-wide
+add-wide c = search needs
 
-goals-of-requires : tie.Need-goals-of-requires Inv-loop μ-loop
-goals-of-requires c κs = c .before .pre .0
+height-requires : tie.Need-height-requires
+height-requires c κs = search needs
 
-goal-count-requires : tie.Need-goal-count-requires Inv-loop μ-loop
-goal-count-requires c κs = tt
+add-end : tie.Need-add-end
+add-end c = search needs
 
-reversed-requires : tie.Need-reversed-requires Inv-loop μ-loop
-reversed-requires c κs = c .goal-count .ensures .1 .0 (c .before .before .before .before .pre .0)
+mul-end : tie.Need-mul-end
+mul-end c = omega (arith, rows-of (c .before .before .before .args .s .now) (c .before .before .before .pre .0) (c .before .before .before .args .j) (c .before .width .result) (c .height .result) (c .before .width .ensures .0) (c .height .ensures .0) .3)
 
-first-layer-requires : tie.Need-first-layer-requires Inv-loop μ-loop
-first-layer-requires c κs = (c .before .before .before .before .before .before .pre .0, c .before .before .before .before .before .before .pre .1, turned-of (c .before .before .before .before .before .before .args .s .now) (c .before .before .before .before .before .before .pre .0) (c .before .before .before .before .before .before .args .j) _ (c .before .before .goal-count .ensures .0) (c .before .before .before .before .goals-of .result) (c .before .reversed .result) (c .before .before .before .before .goals-of .ensures) (c .before .reversed .ensures))
+plain-requires : tie.Need-plain-requires
+plain-requires c κs = let q = rows-of (c .before .before .before .args .s .now) (c .before .before .before .pre .0) (c .before .before .before .args .j) (c .before .width .result) (c .height .result) (c .before .width .ensures .0) (c .height .ensures .0) in (q .2, omega (arith, q .3))
 
-loop-holds : tie.Need-loop-holds Inv-loop μ-loop
-loop-holds c = (passing-first (c .before .before .before .before .before .before .before .args .s .now) (c .before .before .before .before .before .before .before .pre .0) (c .before .before .before .before .before .before .before .args .j) (c .first-layer .result) (c .first-layer .ensures), refl)
+array-share-prefix-none : tie.Need-array-share-prefix-none
+array-share-prefix-none c = search needs
 
-ends-requires : tie.Need-ends-requires Inv-loop μ-loop
-ends-requires c κs = (record { accepted = c .before .before .before .before .before .before .before .before .before .before .before .before .pre .0; task-in = c .before .before .before .before .before .before .before .before .before .before .before .before .pre .1; masked = c .before .before .before .before .before .before .before .before .before .before .before .before .pre .2; begins = c .before .before .before .before .before .before .before .before .before .before .before .before .pre .3; turned = turned-of (c .before .before .before .before .before .before .before .before .before .before .before .before .args .s .now) (c .before .before .before .before .before .before .before .before .before .before .before .before .pre .0) (c .before .before .before .before .before .before .before .before .before .before .before .before .args .j) _ (c .before .before .before .before .before .before .before .before .goal-count .ensures .0) (c .before .before .before .before .before .before .before .before .before .before .goals-of .result) (c .before .before .before .before .before .before .before .reversed .result) (c .before .before .before .before .before .before .before .before .before .before .goals-of .ensures) (c .before .before .before .before .before .before .before .reversed .ensures) }, c .before .before .before .before .loop .inv .0, c .before .before .before .before .loop .inv .1)
+slice-aggregate-column-by : tie.Need-slice-aggregate-column-by
+slice-aggregate-column-by c = search needs
 
-returns : tie.Need-returns Inv-loop μ-loop
-returns c = c .before .ends .ensures .0 (c .if1 .taken)
+column-by-requires : tie.Need-column-by-requires
+column-by-requires c κs = (c .before .before .before .before .before .before .pre .0, c .before .before .before .before .before .before .pre .1, c .before .before .before .before .before .before .pre .2, c .before .before .before .before .before .before .pre .3, given-plain (c .before .before .before .before .before .before .args .mask .now) (c .before .before .before .before .width .result) (c .before .before .before .height .result) (c .before .before .before .before .width .ensures .0) (c .before .before .before .height .ensures .0) true [] refl (c .before .before .plain .ensures (c .before .if1 .taken)))
 
-add-ends : tie.Need-add-ends Inv-loop μ-loop
-add-ends c = omega (arith, c .before .before .before .before .before .before .before .loop .inv .0 .in-time, horizon-range (c .before .before .before .before .before .before .before .before .before .before .before .before .before .before .before .args .s .now) (c .before .before .before .before .before .before .before .before .before .before .before .before .before .before .before .pre .0))
+returns : tie.Need-returns
+returns c = search needs
 
-ends-requires-2 : tie.Need-ends-requires-2 Inv-loop μ-loop
-ends-requires-2 c κs = (record { accepted = c .before .before .before .before .before .before .before .before .before .before .before .before .before .before .before .before .before .before .pre .0; task-in = c .before .before .before .before .before .before .before .before .before .before .before .before .before .before .before .before .before .before .pre .1; masked = c .before .before .before .before .before .before .before .before .before .before .before .before .before .before .before .before .before .before .pre .2; begins = c .before .before .before .before .before .before .before .before .before .before .before .before .before .before .before .before .before .before .pre .3; turned = turned-of (c .before .before .before .before .before .before .before .before .before .before .before .before .before .before .before .before .before .before .args .s .now) (c .before .before .before .before .before .before .before .before .before .before .before .before .before .before .before .before .before .before .pre .0) (c .before .before .before .before .before .before .before .before .before .before .before .before .before .before .before .before .before .before .args .j) _ (c .before .before .before .before .before .before .before .before .before .before .before .before .before .before .goal-count .ensures .0) (c .before .before .before .before .before .before .before .before .before .before .before .before .before .before .before .before .goals-of .result) (c .before .before .before .before .before .before .before .before .before .before .before .before .before .reversed .result) (c .before .before .before .before .before .before .before .before .before .before .before .before .before .before .before .before .goals-of .ensures) (c .before .before .before .before .before .before .before .before .before .before .before .before .before .reversed .ensures) }, c .before .before .before .before .before .ends .ensures .1 (c .before .before .before .before .if1 .left), c .before .before .before .before .before .ends .ensures .2)
+doors-requires : tie.Need-doors-requires
+doors-requires c κs = rows-of (c .before .before .before .before .before .args .s .now) (c .before .before .before .before .before .pre .0) (c .before .before .before .before .before .args .j) (c .before .before .before .width .result) (c .before .before .height .result) (c .before .before .before .width .ensures .0) (c .before .before .height .ensures .0)
 
-returns-2 : tie.Need-returns-2 Inv-loop μ-loop
-returns-2 c = c .before .ends2 .ensures .0 (c .if2 .taken)
+slice-aggregate-column-by-2 : tie.Need-slice-aggregate-column-by-2
+slice-aggregate-column-by-2 c = search needs
 
-add-k : tie.Need-add-k Inv-loop μ-loop
-add-k c = omega (arith, c .before .before .before .before .before .before .before .before .before .before .before .before .loop .inv .0 .in-time, horizon-range (c .before .before .before .before .before .before .before .before .before .before .before .before .before .before .before .before .before .before .before .before .args .s .now) (c .before .before .before .before .before .before .before .before .before .before .before .before .before .before .before .before .before .before .before .before .pre .0))
+column-by-requires-2 : tie.Need-column-by-requires-2
+column-by-requires-2 c κs = (c .before .before .before .before .before .before .before .pre .0, c .before .before .before .before .before .before .before .pre .1, c .before .before .before .before .before .before .before .pre .2, c .before .before .before .before .before .before .before .pre .3, given-doors (c .before .before .before .before .before .before .before .args .mask .now) (c .before .before .before .before .before .width .result) (c .before .before .before .before .height .result) (c .before .before .before .before .before .width .ensures .0) (c .before .before .before .before .height .ensures .0) true (c .before .doors .result) (c .before .doors .ensures))
 
-loop-less : tie.Need-loop-less Inv-loop μ-loop
-loop-less c = omega (arith, c .before .ends2 .ensures .1 (c .if2 .left) .in-time)
-
-loop-again : tie.Need-loop-again Inv-loop μ-loop
-loop-again c = (let e : c .before .before .before .before .before .before .before .before .before .before .before .before .loop .k + 1 + 1 ≡ c .before .before .before .before .before .before .before .before .before .before .before .before .loop .k + 2 = omega arith in subst (λ (z : ℕ). Passing (c .before .before .before .before .before .before .before .before .before .before .before .before .before .before .before .before .before .before .before .before .args .s .now) (c .before .before .before .before .before .before .before .before .before .before .before .before .before .before .before .before .before .before .before .before .args .j) z (c .before .ends2 .last .1 .1 .1 .1 .1 .1 .1 .0) (c .before .before .before .before .before .before .before .ends .last .1 .1 .1 .1 .1 .1 .1 .0) (c .before .ends2 .last .1 .1 .1 .1 .1 .1 .1 .1 .0)) e (c .before .ends2 .ensures .1 (c .if2 .left)), c .before .ends2 .ensures .2)
+returns-2 : tie.Need-returns-2
+returns-2 c = search needs
 
 pub column-spec : {M : Type 1} → statement M
 column-spec =
     tie.close
     (tie.spec
-    Inv-loop
-    μ-loop
-    goals-of-requires
-    goal-count-requires
-    reversed-requires
-    first-layer-requires
-    loop-holds
-    ends-requires
+    width-requires
+    add-wide
+    height-requires
+    add-end
+    mul-end
+    plain-requires
+    array-share-prefix-none
+    slice-aggregate-column-by
+    column-by-requires
     returns
-    add-ends
-    ends-requires-2
-    returns-2
-    add-k
-    loop-less
-    loop-again)
+    doors-requires
+    slice-aggregate-column-by-2
+    column-by-requires-2
+    returns-2)

@@ -23,10 +23,10 @@ slice-aggregate-step-2 : tie.Need-slice-aggregate-step-2
 slice-aggregate-step-2 c = search needs
 
 step-requires : tie.Need-step-requires
-step-requires c κs = step-wants (c .before .before .before .before .before .before .before .before .args .s .now) (c .before .before .before .before .before .before .before .before .pre .0) (c .before .before .before .before .before .before .before .before .args .j) (c .before .before .before .before .before .before .before .before .args .mask .now) (c .before .before .before .before .before .before .before .before .pre .2) (c .before .before .before .before .before .before .before .before .pre .1) _ _ _ (c .before .before .before .before .before .before .width .ensures .0) (c .before .before .before .before .before .height .ensures .0) (c .before .before .before .before .goal-count .ensures .0) (c .before .before .before .before .before .before .before .before .args .goals .now) (c .before .before .before .before .before .before .before .before .pre .3) _ (c .before .before .before .before .before .before .before .before .args .dst .now) (c .before .before .before .before .before .before .before .before .pre .4)
+step-requires c κs = step-wants (c .before .before .before .before .before .before .before .before .before .args .s .now) (c .before .before .before .before .before .before .before .before .before .pre .0) (c .before .before .before .before .before .before .before .before .before .args .j) (c .before .before .before .before .before .before .before .before .before .args .mask .now) (c .before .before .before .before .before .before .before .before .before .pre .2) (c .before .before .before .before .before .before .before .before .before .pre .1) _ _ _ (c .before .before .before .before .before .before .width .ensures .0) (c .before .before .before .before .before .height .ensures .0) (c .before .before .before .before .goal-count .ensures .0) (c .before .before .before .before .before .before .before .before .before .args .goals .now) (c .before .before .before .before .before .before .before .before .before .pre .3) (c .before .before .before .before .before .before .before .before .before .args .doors .now) (c .before .before .before .before .before .before .before .before .before .pre .4) _ (c .before .before .before .before .before .before .before .before .before .args .dst .now) (c .before .before .before .before .before .before .before .before .before .pre .5)
 
 returns : tie.Need-returns
-returns c = stepped-steps (c .before .before .before .before .before .before .before .before .before .args .s .now) (c .before .before .before .before .before .before .before .before .before .pre .0) (c .before .before .before .before .before .before .before .before .before .args .j) (c .before .before .before .before .before .before .before .before .before .args .mask .now) (c .before .before .before .before .before .before .before .before .before .pre .2) (c .before .before .before .before .before .before .before .before .before .pre .1) _ _ _ (c .before .before .before .before .before .before .before .width .ensures .0) (c .before .before .before .before .before .before .height .ensures .0) (c .before .before .before .before .before .goal-count .ensures .0) (c .before .before .before .before .before .before .before .before .before .args .goals .now) (c .before .before .before .before .before .before .before .before .before .pre .3) (c .step .ensures)
+returns c = stepped-steps (c .before .before .before .before .before .before .before .before .before .before .args .s .now) (c .before .before .before .before .before .before .before .before .before .before .pre .0) (c .before .before .before .before .before .before .before .before .before .before .args .j) (c .before .before .before .before .before .before .before .before .before .before .args .mask .now) (c .before .before .before .before .before .before .before .before .before .before .pre .2) (c .before .before .before .before .before .before .before .before .before .before .pre .1) _ _ _ (c .before .before .before .before .before .before .before .width .ensures .0) (c .before .before .before .before .before .before .height .ensures .0) (c .before .before .before .before .before .goal-count .ensures .0) (c .before .before .before .before .before .before .before .before .before .before .args .goals .now) (c .before .before .before .before .before .before .before .before .before .before .pre .3) (c .step .ensures)
 
 pub next-layer-spec : {M : Type 1} → statement M
 next-layer-spec =

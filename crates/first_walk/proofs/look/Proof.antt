@@ -3,7 +3,7 @@ use borrow.Author.Needs.{needs}
 use native.Mathlib.Omega.{arith}
 use mathlib.Core.Path.{refl}
 use Rattle.passes.proofs.Given.{horizon-most, few-goals, all-counted, few-records}
-use Rattle.first_walk.proofs.Looking.{place-small, time-small, width-small, padded-small, spot-of, spot-small, blocked-way, open-way, open-small, count-small, too-late, was-dead, barred-way, clear-way}
+use Rattle.first_walk.proofs.Looking.{place-small, time-small, width-small, padded-small, spot-of, spot-small, blocked-way, closed-way, open-way, open-small, count-small, too-late, was-dead, barred-way, clear-way}
 use Rattle.first_walk.proofs.look.Statement.{statement}
 use Rattle.first_walk.proofs.look.Tie as tie
 
@@ -73,11 +73,24 @@ returns-3 c = was-dead (c .before .before .before .before .before .before .befor
 lets-requires : tie.Need-lets-requires
 lets-requires c κs = (omega (arith, c .before .before .before .before .before .before .before .before .before .before .before .before .before .before .before .before .before .before .pre .3, c .before .before .before .before .before .before .before .before .before .before .before .before .before .before .before .before .before .before .pre .0 .in-time, horizon-most (c .before .before .before .before .before .before .before .before .before .before .before .before .before .before .before .before .before .before .pre .0 .ready)), few-records (c .before .before .before .before .before .before .before .before .before .before .before .before .before .before .before .before .before .before .pre .0 .ready), c .before .before .before .before .before .before .before .before .before .before .before .before .before .before .before .before .before .before .pre .0 .chained)
 
+element-copy-out-opens : tie.Need-element-copy-out-opens
+element-copy-out-opens c =
+    let s = c .before .before .before .before .before .before .before .before .before .before .before .before .before .before .before .before .before .before .before .before in padded-small (s .pre .0) (s .pre .1)
+
+opens-requires : tie.Need-opens-requires
+opens-requires c κs = search needs
+
 returns-4 : tie.Need-returns-4
-returns-4 c = clear-way (c .before .before .before .before .before .before .before .before .before .before .before .before .before .before .before .before .before .before .before .before .pre .0) (c .before .before .before .before .before .before .before .before .before .before .before .before .before .before .before .before .before .before .before .before .pre .1) (c .before .before .before .before .before .before .before .before .before .before .before .before .before .before .before .before .before .before .before .before .args .x) (c .before .before .before .before .before .before .before .before .before .before .before .before .before .before .before .before .before .before .before .before .pre .4) (c .before .before .before .before .before .before .before .before .before .before .before .before .before .before .before .before .before .before .before .before .pre .3) ((open-way (c .before .before .before .before .before .before .before .before .before .before .before .before .before .before .before .before .before .before .before .before .pre .0) (c .before .before .before .before .before .before .before .before .before .before .before .before .before .before .before .before .before .before .before .before .pre .1) (c .before .before .before .before .before .before .before .before .before .before .before .before .before .before .before .before .before .before .before .before .args .x) (c .before .before .before .before .before .before .before .before .before .before .before .before .before .before .before .before .before .before .before .before .pre .4) _ _ (c .before .before .before .before .before .before .before .before .before .before .turn2 .result) (spot-of (c .before .before .before .before .before .before .before .before .before .before .before .before .before .before .before .before .before .before .before .before .pre .0) (c .before .before .before .before .before .before .before .before .before .before .before .before .before .before .before .before .before .before .before .before .pre .1) (c .before .before .before .before .before .before .before .before .before .before .before .before .before .before .before .before .before .before .before .before .args .x) (c .before .before .before .before .before .before .before .before .before .before .before .before .before .before .turn .result) (c .before .before .before .before .before .before .before .before .before .before .before .before .before .before .turn .ensures .0)) refl (c .before .before .before .before .before .before .before .before .before .before .before .if1 .left) (c .before .before .before .before .before .before .before .before .before .before .turn2 .ensures .0)) .1) (c .before .before .before .before .before .before .before .before .visit .ensures) _ (c .before .lets .ensures) (c .if4 .taken)
+returns-4 c =
+    let e = c .before .before .before in
+    clear-way (e .before .before .before .before .before .before .before .before .before .before .before .before .before .before .before .before .before .before .before .before .pre .0) (e .before .before .before .before .before .before .before .before .before .before .before .before .before .before .before .before .before .before .before .before .pre .1) (e .before .before .before .before .before .before .before .before .before .before .before .before .before .before .before .before .before .before .before .before .args .x) (e .before .before .before .before .before .before .before .before .before .before .before .before .before .before .before .before .before .before .before .before .pre .4) (e .before .before .before .before .before .before .before .before .before .before .before .before .before .before .before .before .before .before .before .before .pre .3) ((open-way (e .before .before .before .before .before .before .before .before .before .before .before .before .before .before .before .before .before .before .before .before .pre .0) (e .before .before .before .before .before .before .before .before .before .before .before .before .before .before .before .before .before .before .before .before .pre .1) (e .before .before .before .before .before .before .before .before .before .before .before .before .before .before .before .before .before .before .before .before .args .x) (e .before .before .before .before .before .before .before .before .before .before .before .before .before .before .before .before .before .before .before .before .pre .4) _ _ (e .before .before .before .before .before .before .before .before .before .before .turn2 .result) (spot-of (e .before .before .before .before .before .before .before .before .before .before .before .before .before .before .before .before .before .before .before .before .pre .0) (e .before .before .before .before .before .before .before .before .before .before .before .before .before .before .before .before .before .before .before .before .pre .1) (e .before .before .before .before .before .before .before .before .before .before .before .before .before .before .before .before .before .before .before .before .args .x) (e .before .before .before .before .before .before .before .before .before .before .before .before .before .before .turn .result) (e .before .before .before .before .before .before .before .before .before .before .before .before .before .before .turn .ensures .0)) refl (e .before .before .before .before .before .before .before .before .before .before .before .if1 .left) (e .before .before .before .before .before .before .before .before .before .before .turn2 .ensures .0)) .1) (e .before .before .before .before .before .before .before .before .visit .ensures) _ (c .before .opens .ensures) (c .if5 .taken) _ (e .before .lets .ensures) (e .if4 .taken)
 
 returns-5 : tie.Need-returns-5
-returns-5 c = barred-way (c .before .before .before .before .before .before .before .before .before .before .before .before .before .before .before .before .before .before .before .before .pre .0) (c .before .before .before .before .before .before .before .before .before .before .before .before .before .before .before .before .before .before .before .before .pre .1) (c .before .before .before .before .before .before .before .before .before .before .before .before .before .before .before .before .before .before .before .before .args .x) (c .before .before .before .before .before .before .before .before .before .before .before .before .before .before .before .before .before .before .before .before .pre .4) (c .before .before .before .before .before .before .before .before .before .before .before .before .before .before .before .before .before .before .before .before .pre .3) ((open-way (c .before .before .before .before .before .before .before .before .before .before .before .before .before .before .before .before .before .before .before .before .pre .0) (c .before .before .before .before .before .before .before .before .before .before .before .before .before .before .before .before .before .before .before .before .pre .1) (c .before .before .before .before .before .before .before .before .before .before .before .before .before .before .before .before .before .before .before .before .args .x) (c .before .before .before .before .before .before .before .before .before .before .before .before .before .before .before .before .before .before .before .before .pre .4) _ _ (c .before .before .before .before .before .before .before .before .before .before .turn2 .result) (spot-of (c .before .before .before .before .before .before .before .before .before .before .before .before .before .before .before .before .before .before .before .before .pre .0) (c .before .before .before .before .before .before .before .before .before .before .before .before .before .before .before .before .before .before .before .before .pre .1) (c .before .before .before .before .before .before .before .before .before .before .before .before .before .before .before .before .before .before .before .before .args .x) (c .before .before .before .before .before .before .before .before .before .before .before .before .before .before .turn .result) (c .before .before .before .before .before .before .before .before .before .before .before .before .before .before .turn .ensures .0)) refl (c .before .before .before .before .before .before .before .before .before .before .before .if1 .left) (c .before .before .before .before .before .before .before .before .before .before .turn2 .ensures .0)) .1) (c .before .before .before .before .before .before .before .before .visit .ensures) _ (c .before .lets .ensures) (c .if4 .left)
+returns-5 c =
+    let s = c .before .before .before .before .before .before .before .before .before .before .before .before .before .before .before .before .before .before .before .before .before .before .before in closed-way (s .pre .0) (s .pre .1) (s .args .x) (s .pre .4) _ (c .before .opens .ensures) (c .if5 .left)
+
+returns-6 : tie.Need-returns-6
+returns-6 c = barred-way (c .before .before .before .before .before .before .before .before .before .before .before .before .before .before .before .before .before .before .before .before .pre .0) (c .before .before .before .before .before .before .before .before .before .before .before .before .before .before .before .before .before .before .before .before .pre .1) (c .before .before .before .before .before .before .before .before .before .before .before .before .before .before .before .before .before .before .before .before .args .x) (c .before .before .before .before .before .before .before .before .before .before .before .before .before .before .before .before .before .before .before .before .pre .4) (c .before .before .before .before .before .before .before .before .before .before .before .before .before .before .before .before .before .before .before .before .pre .3) ((open-way (c .before .before .before .before .before .before .before .before .before .before .before .before .before .before .before .before .before .before .before .before .pre .0) (c .before .before .before .before .before .before .before .before .before .before .before .before .before .before .before .before .before .before .before .before .pre .1) (c .before .before .before .before .before .before .before .before .before .before .before .before .before .before .before .before .before .before .before .before .args .x) (c .before .before .before .before .before .before .before .before .before .before .before .before .before .before .before .before .before .before .before .before .pre .4) _ _ (c .before .before .before .before .before .before .before .before .before .before .turn2 .result) (spot-of (c .before .before .before .before .before .before .before .before .before .before .before .before .before .before .before .before .before .before .before .before .pre .0) (c .before .before .before .before .before .before .before .before .before .before .before .before .before .before .before .before .before .before .before .before .pre .1) (c .before .before .before .before .before .before .before .before .before .before .before .before .before .before .before .before .before .before .before .before .args .x) (c .before .before .before .before .before .before .before .before .before .before .before .before .before .before .turn .result) (c .before .before .before .before .before .before .before .before .before .before .before .before .before .before .turn .ensures .0)) refl (c .before .before .before .before .before .before .before .before .before .before .before .if1 .left) (c .before .before .before .before .before .before .before .before .before .before .turn2 .ensures .0)) .1) (c .before .before .before .before .before .before .before .before .visit .ensures) _ (c .before .lets .ensures) (c .if4 .left)
 
 pub look-spec : {M : Type 1} → statement M
 look-spec =
@@ -105,5 +118,8 @@ look-spec =
     is-dead-requires
     returns-3
     lets-requires
+    element-copy-out-opens
+    opens-requires
     returns-4
-    returns-5)
+    returns-5
+    returns-6)

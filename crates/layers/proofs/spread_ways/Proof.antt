@@ -24,8 +24,8 @@ sub-smaller c = search needs
 element-copy-out-smaller : tie.Need-element-copy-out-smaller Inv-loop μ-loop
 element-copy-out-smaller c = search needs
 
-element-copy-out-smaller-2 : tie.Need-element-copy-out-smaller-2 Inv-loop μ-loop
-element-copy-out-smaller-2 c = search needs
+shared-slice-read-smaller : tie.Need-shared-slice-read-smaller Inv-loop μ-loop
+shared-slice-read-smaller c = search needs
 
 smaller-requires : tie.Need-smaller-requires Inv-loop μ-loop
 smaller-requires c κs = search needs
@@ -33,26 +33,26 @@ smaller-requires c κs = search needs
 sub-smaller-2 : tie.Need-sub-smaller-2 Inv-loop μ-loop
 sub-smaller-2 c = search needs
 
-element-copy-out-smaller-3 : tie.Need-element-copy-out-smaller-3 Inv-loop μ-loop
-element-copy-out-smaller-3 c = search needs
+element-copy-out-smaller-2 : tie.Need-element-copy-out-smaller-2 Inv-loop μ-loop
+element-copy-out-smaller-2 c = search needs
 
 add-smaller : tie.Need-add-smaller Inv-loop μ-loop
 add-smaller c = search needs
 
-element-copy-out-smaller-4 : tie.Need-element-copy-out-smaller-4 Inv-loop μ-loop
-element-copy-out-smaller-4 c = search needs
+shared-slice-read-smaller-2 : tie.Need-shared-slice-read-smaller-2 Inv-loop μ-loop
+shared-slice-read-smaller-2 c = search needs
 
 smaller-requires-2 : tie.Need-smaller-requires-2 Inv-loop μ-loop
 smaller-requires-2 c κs = search needs
 
-element-copy-out-smaller-5 : tie.Need-element-copy-out-smaller-5 Inv-loop μ-loop
-element-copy-out-smaller-5 c = search needs
+element-copy-out-smaller-3 : tie.Need-element-copy-out-smaller-3 Inv-loop μ-loop
+element-copy-out-smaller-3 c = search needs
 
 add-smaller-2 : tie.Need-add-smaller-2 Inv-loop μ-loop
 add-smaller-2 c = search needs
 
-element-copy-out-smaller-6 : tie.Need-element-copy-out-smaller-6 Inv-loop μ-loop
-element-copy-out-smaller-6 c = search needs
+shared-slice-read-smaller-3 : tie.Need-shared-slice-read-smaller-3 Inv-loop μ-loop
+shared-slice-read-smaller-3 c = search needs
 
 smaller-requires-3 : tie.Need-smaller-requires-3 Inv-loop μ-loop
 smaller-requires-3 c κs = search needs
@@ -60,14 +60,14 @@ smaller-requires-3 c κs = search needs
 add-smaller-3 : tie.Need-add-smaller-3 Inv-loop μ-loop
 add-smaller-3 c = search needs
 
-element-copy-out-smaller-7 : tie.Need-element-copy-out-smaller-7 Inv-loop μ-loop
-element-copy-out-smaller-7 c = search needs
+element-copy-out-smaller-4 : tie.Need-element-copy-out-smaller-4 Inv-loop μ-loop
+element-copy-out-smaller-4 c = search needs
 
 add-smaller-4 : tie.Need-add-smaller-4 Inv-loop μ-loop
 add-smaller-4 c = search needs
 
-element-copy-out-smaller-8 : tie.Need-element-copy-out-smaller-8 Inv-loop μ-loop
-element-copy-out-smaller-8 c = search needs
+shared-slice-read-smaller-4 : tie.Need-shared-slice-read-smaller-4 Inv-loop μ-loop
+shared-slice-read-smaller-4 c = search needs
 
 smaller-requires-4 : tie.Need-smaller-requires-4 Inv-loop μ-loop
 smaller-requires-4 c κs = search needs
@@ -75,14 +75,14 @@ smaller-requires-4 c κs = search needs
 add-smaller-5 : tie.Need-add-smaller-5 Inv-loop μ-loop
 add-smaller-5 c = search needs
 
-element-copy-out-smaller-9 : tie.Need-element-copy-out-smaller-9 Inv-loop μ-loop
-element-copy-out-smaller-9 c = search needs
+element-copy-out-smaller-5 : tie.Need-element-copy-out-smaller-5 Inv-loop μ-loop
+element-copy-out-smaller-5 c = search needs
 
 add-smaller-6 : tie.Need-add-smaller-6 Inv-loop μ-loop
 add-smaller-6 c = search needs
 
-element-copy-out-smaller-10 : tie.Need-element-copy-out-smaller-10 Inv-loop μ-loop
-element-copy-out-smaller-10 c = search needs
+shared-slice-read-smaller-5 : tie.Need-shared-slice-read-smaller-5 Inv-loop μ-loop
+shared-slice-read-smaller-5 c = search needs
 
 smaller-requires-5 : tie.Need-smaller-requires-5 Inv-loop μ-loop
 smaller-requires-5 c κs = search needs
@@ -123,26 +123,26 @@ spread-ways-spec =
     loop-holds
     sub-smaller
     element-copy-out-smaller
-    element-copy-out-smaller-2
+    shared-slice-read-smaller
     smaller-requires
     sub-smaller-2
-    element-copy-out-smaller-3
+    element-copy-out-smaller-2
     add-smaller
-    element-copy-out-smaller-4
+    shared-slice-read-smaller-2
     smaller-requires-2
-    element-copy-out-smaller-5
+    element-copy-out-smaller-3
     add-smaller-2
-    element-copy-out-smaller-6
+    shared-slice-read-smaller-3
     smaller-requires-3
     add-smaller-3
-    element-copy-out-smaller-7
+    element-copy-out-smaller-4
     add-smaller-4
-    element-copy-out-smaller-8
+    shared-slice-read-smaller-4
     smaller-requires-4
     add-smaller-5
-    element-copy-out-smaller-9
+    element-copy-out-smaller-5
     add-smaller-6
-    element-copy-out-smaller-10
+    shared-slice-read-smaller-5
     smaller-requires-5
     larger-requires
     larger-requires-2

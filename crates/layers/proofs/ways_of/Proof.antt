@@ -1,36 +1,22 @@
--- `layers::ways_of` meets its contract: five copies of the mask. Assumes nothing.
+-- `layers::ways_of` meets its contract: copies of the mask, or a copy of the doors. Assumes nothing.
 use borrow.Author.Needs.{needs}
+use native.Mathlib.Omega.{arith}
 use mathlib.Core.Path.{refl}
-use Prim.Native.Nat.{_-_}
-use Rattle.layers.proofs.Advancing.{copies-all}
+use Rattle.layers.proofs.Advancing.{copies-plain, copies-doors}
 use Rattle.layers.proofs.ways_of.Statement.{statement}
 use Rattle.layers.proofs.ways_of.Tie as tie
 
-copy-to-requires : tie.Need-copy-to-requires
-copy-to-requires c κs = search needs
-
-copy-to-requires-2 : tie.Need-copy-to-requires-2
-copy-to-requires-2 c κs = search needs
-
-copy-to-requires-3 : tie.Need-copy-to-requires-3
-copy-to-requires-3 c κs = search needs
-
-copy-to-requires-4 : tie.Need-copy-to-requires-4
-copy-to-requires-4 c κs = search needs
-
-copy-to-requires-5 : tie.Need-copy-to-requires-5
-copy-to-requires-5 c κs = search needs
+copies-of-requires : tie.Need-copies-of-requires
+copies-of-requires c κs = search needs
 
 returns : tie.Need-returns
-returns c = copies-all (c .before .before .before .before .before .before .before .before .before .before .args .mask .now) refl (c .before .before .before .before .before .before .before .before .copy-to .ensures) (c .before .before .before .before .before .before .copy-to2 .ensures) (c .before .before .before .before .copy-to3 .ensures) (c .before .before .copy-to4 .ensures) (c .copy-to5 .ensures)
+returns c = copies-plain (c .before .before .before .args .mask .now) (c .before .before .before .args .doors .now) (c .before .if1 .taken) (c .copies-of .ensures)
+
+copy-to-requires : tie.Need-copy-to-requires
+copy-to-requires c κs = (omega (arith, c .before .before .before .pre (c .before .if1 .left)), refl)
+
+returns-2 : tie.Need-returns-2
+returns-2 c = copies-doors (c .before .before .before .before .args .mask .now) (c .before .before .before .before .args .doors .now) refl (c .before .before .if1 .left) (c .before .before .before .before .pre (c .before .before .if1 .left)) (c .copy-to .ensures)
 
 pub ways-of-spec : {M : Type 1} → statement M
-ways-of-spec =
-    tie.close
-    (tie.spec
-    copy-to-requires
-    copy-to-requires-2
-    copy-to-requires-3
-    copy-to-requires-4
-    copy-to-requires-5
-    returns)
+ways-of-spec = tie.close (tie.spec copies-of-requires returns copy-to-requires returns-2)

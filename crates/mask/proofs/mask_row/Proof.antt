@@ -4,17 +4,17 @@ use native.Mathlib.Omega.{arith}
 use mathlib.Core.Path.{_≡_, sym, _∙_, ap}
 use Prim.Native.Nat.{ℕ, _+_, _-_, _≤_}
 use lib.ListN.{getD}
+use Rattle.bars.specs.Padded.{shadeOf}
 use Rattle.layers.specs.Fill.{Filled}
 use Rattle.layers.proofs.Fills.{filled-none, filled-more, filled-all}
-use Rattle.mask.specs.Mask.{shadeOf}
 use Rattle.mask.proofs.mask_row.Statement.{statement}
 use Rattle.mask.proofs.mask_row.Tie as tie
 
 abbrev Inv-loop : tie.InvT-loop
-Inv-loop s from at w mask₀ x₀ mask x = (x ≤ w) × Filled at (at + x) (λ p. shadeOf (getD s (from + (p - at)) 0)) mask₀ mask
+Inv-loop s from at w plain mask₀ x₀ mask x = (x ≤ w) × Filled at (at + x) (λ p. shadeOf (getD s (from + (p - at)) 0)) mask₀ mask
 
 abbrev μ-loop : tie.MeasureT-loop
-μ-loop s from at w mask₀ x₀ mask x = w - x
+μ-loop s from at w plain mask₀ x₀ mask x = w - x
 
 loop-holds : tie.Need-loop-holds Inv-loop μ-loop
 loop-holds c = (omega arith, filled-all _ _ _ (omega arith) (filled-none _ _ _))
@@ -26,7 +26,7 @@ shared-slice-read-shade : tie.Need-shared-slice-read-shade Inv-loop μ-loop
 shared-slice-read-shade c = search needs
 
 shade-requires : tie.Need-shade-requires Inv-loop μ-loop
-shade-requires c κs = search needs
+shade-requires c κs = λ e. c .before .before .before .before .pre .3 e (c .before .before .loop .x) (c .before .loop-test .taken)
 
 add-mask : tie.Need-add-mask Inv-loop μ-loop
 add-mask c = search needs

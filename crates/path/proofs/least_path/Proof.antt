@@ -1,6 +1,6 @@
 -- `path::least_path` meets its contract: refused, or answered by the least path. Assumes nothing.
 use borrow.Author.Needs.{needs}
-use mathlib.Core.Path.{_≡_, sym, _∙_}
+use mathlib.Core.Path.{_≡_, refl, sym, _∙_}
 use lib.ListN.{length}
 use Rattle.deck.specs.Calls.{pathCause}
 use Rattle.by_passes.proofs.Finding.{no-bound}
@@ -20,17 +20,17 @@ returns c =
     let args = c .before .before .before .before .before .before .args in
     call-refused (args .s .now) (args .i) (args .j) (args .work .now) (args .out .now) (args .records .now) _ (c .before .refusal .ensures) (c .if1 .taken)
 
-mask-of-requires : tie.Need-mask-of-requires
-mask-of-requires c κs =
-    let a = c .before .before .before .before .before .before .args in
-    no-cause (a .s .now) (a .i) (a .j) (length (a .work .now)) (length (a .out .now)) (a .records .now) (accepted c) .accepted
+fill-requires : tie.Need-fill-requires
+fill-requires c κs =
+    let a = c .before .before .before .before .before .before .before .args in
+    (no-cause (a .s .now) (a .i) (a .j) (length (a .work .now)) (length (a .out .now)) (a .records .now) (accepted (c .before)) .accepted, refl)
 
 least-requires : tie.Need-least-requires
 least-requires c κs =
-    let a = c .before .before .before .before .before .before .before .before .before .before .args in
-    let ok = accepted (c .before .before .before .before) in
+    let a = c .before .before .before .before .before .before .before .before .before .before .before .args in
+    let ok = accepted (c .before .before .before .before .before) in
     let n = no-cause (a .s .now) (a .i) (a .j) (length (a .work .now)) (length (a .out .now)) (a .records .now) ok in
-    let q = c .before .before .before .mask-of .ensures in
+    let q = c .before .before .before .fill .ensures in
     let ready = ready-of (a .s .now) (a .i) (a .j) (length (a .work .now)) (length (a .out .now)) (a .records .now) ok _ q in (
       ready,
       no-bound (a .s .now) (a .i) (a .j) _ (a .records .now) ready,
@@ -46,8 +46,8 @@ same-length-2 c = search needs
 
 returns-2 : tie.Need-returns-2
 returns-2 c =
-    let a = c .before .before .before .before .before .before .before .before .before .before .before .before .before .before .before .args in
-    call-answered (a .s .now) (a .i) (a .j) (a .work .now) (a .out .now) (a .records .now) (accepted (c .before .before .before .before .before .before .before .before .before)) _ _ _ (c .before .before .before .before .least .ensures)
+    let a = c .before .before .before .before .before .before .before .before .before .before .before .before .before .before .before .before .args in
+    call-answered (a .s .now) (a .i) (a .j) (a .work .now) (a .out .now) (a .records .now) (accepted (c .before .before .before .before .before .before .before .before .before .before)) _ _ _ (c .before .before .before .before .least .ensures)
 
 pub least-path-spec : {M : Type 1} → statement M
 least-path-spec =
@@ -55,7 +55,7 @@ least-path-spec =
     (tie.spec
     refusal-requires
     returns
-    mask-of-requires
+    fill-requires
     least-requires
     same-length
     same-length-2

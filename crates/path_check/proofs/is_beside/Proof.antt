@@ -1,64 +1,38 @@
--- `path_check::is_beside` meets its contract: each way out is a law of rows and columns. Assumes nothing.
-use mathlib.Core.Path.{_∙_}
-use Rattle.path_check.proofs.Steps.{next-row, next-column, not-next}
+-- `path_check::is_beside` meets its contract: where v is next to u, what is left is the test of the byte of u. Assumes nothing.
+use mathlib.Core.Path.{sym, _∙_}
+use native.Mathlib.Omega.{arith}
+use denote.Ref.{now}
+use Rattle.path_check.proofs.Steps.{beside-leave, not-beside}
+use Rattle.sheet.proofs.Accepted.{width-range}
 use borrow.Author.Needs.{needs}
 use Rattle.path_check.proofs.is_beside.Statement.{statement}
 use Rattle.path_check.proofs.is_beside.Tie as tie
 
-div-if1 : tie.Need-div-if1
-div-if1 c = search needs
+next-to-requires : tie.Need-next-to-requires
+next-to-requires c κs =
+    let s = c .before in
+    omega (arith, width-range (now (s .args .s)) (s .pre .0))
 
-div-if1-2 : tie.Need-div-if1-2
-div-if1-2 c = search needs
+grid-byte-requires : tie.Need-grid-byte-requires
+grid-byte-requires c κs = search needs
 
-rem-one-apart : tie.Need-rem-one-apart
-rem-one-apart c = search needs
-
-rem-one-apart-2 : tie.Need-rem-one-apart-2
-rem-one-apart-2 c = search needs
-
-one-apart-requires : tie.Need-one-apart-requires
-one-apart-requires c κs = search needs
+may-leave-requires : tie.Need-may-leave-requires
+may-leave-requires c κs =
+    let s = c .before .before .before .before in
+    omega (arith, width-range (now (s .args .s)) (s .pre .0))
 
 returns : tie.Need-returns
-returns c = c .one-apart .ensures ∙ next-row _ _ _ (c .before .if1 .taken)
-
-rem-if2 : tie.Need-rem-if2
-rem-if2 c = search needs
-
-rem-if2-2 : tie.Need-rem-if2-2
-rem-if2-2 c = search needs
-
-div-one-apart : tie.Need-div-one-apart
-div-one-apart c = search needs
-
-div-one-apart-2 : tie.Need-div-one-apart-2
-div-one-apart-2 c = search needs
-
-one-apart-requires-2 : tie.Need-one-apart-requires-2
-one-apart-requires-2 c κs = search needs
+returns c =
+    let g = c .before in
+    let n = g .before .before in
+    let s = n .before .before in
+    c .may-leave .ensures ∙ beside-leave _ _ _ _ (s .pre .1) (sym (n .next-to .ensures) ∙ g .before .if1 .taken) _ (g .grid-byte .ensures .0)
 
 returns-2 : tie.Need-returns-2
 returns-2 c =
-    c .one-apart2 .ensures ∙ next-column _ _ _ (c .before .before .if1 .left) (c .before .if2 .taken)
-
-returns-3 : tie.Need-returns-3
-returns-3 c = not-next _ _ _ (c .before .if1 .left) (c .if2 .left)
+    let n = c .before in
+    not-beside _ _ _ _ (n .before .before .pre .1) (sym (n .next-to .ensures) ∙ c .if1 .left)
 
 pub is-beside-spec : {M : Type 1} → statement M
 is-beside-spec =
-    tie.close
-    (tie.spec
-    div-if1
-    div-if1-2
-    rem-one-apart
-    rem-one-apart-2
-    one-apart-requires
-    returns
-    rem-if2
-    rem-if2-2
-    div-one-apart
-    div-one-apart-2
-    one-apart-requires-2
-    returns-2
-    returns-3)
+    tie.close (tie.spec next-to-requires grid-byte-requires may-leave-requires returns returns-2)

@@ -1,9 +1,6 @@
 -- `path_check::may_step` meets its contract: each way out is a law of one step. Assumes nothing.
 use mathlib.Core.Path.{sym, _∙_}
-use native.Mathlib.Omega.{arith}
-use denote.Ref.{now}
 use Rattle.path_check.proofs.Walks.{step-wait, step-free, step-shut}
-use Rattle.sheet.proofs.Accepted.{width-range}
 use borrow.Author.Needs.{needs}
 use Rattle.path_check.proofs.may_step.Statement.{statement}
 use Rattle.path_check.proofs.may_step.Tie as tie
@@ -15,15 +12,12 @@ is-free-requires : tie.Need-is-free-requires
 is-free-requires c κs = search needs
 
 is-beside-requires : tie.Need-is-beside-requires
-is-beside-requires c κs =
-    let s = c .before .before .before .before in
-    omega (arith, width-range (now (s .args .s)) (s .pre .0))
+is-beside-requires c κs = search needs
 
 returns-2 : tie.Need-returns-2
 returns-2 c =
     let f = c .before .before in
-    let s = f .before .before .before in
-    c .is-beside .ensures ∙ step-free _ _ _ (f .before .if1 .left) (sym (f .is-free .ensures) ∙ c .before .if2 .taken) _ (s .pre .1)
+    c .is-beside .ensures ∙ step-free _ _ _ (f .before .if1 .left) (sym (f .is-free .ensures) ∙ c .before .if2 .taken)
 
 returns-3 : tie.Need-returns-3
 returns-3 c =

@@ -1,16 +1,16 @@
--- `sheet_test::blocked_places` is safe and ends: it counts at most the places passed. Assumes nothing.
+-- `sheet_test::places_with` is safe and ends: it counts at most the places passed. Assumes nothing.
 use Prim.Native.Nat.{_≤_, _-_}
 use native.Mathlib.Omega.{arith}
 use mathlib.Core.Logic.{⊎-elim}
 use borrow.Author.Needs.{needs}
-use Rattle.sheet_test.proofs.blocked_places.Statement.{statement}
-use Rattle.sheet_test.proofs.blocked_places.Tie as tie
+use Rattle.sheet_test.proofs.places_with.Statement.{statement}
+use Rattle.sheet_test.proofs.places_with.Tie as tie
 
 abbrev Inv-loop : tie.InvT-loop
-Inv-loop s n count₀ v₀ count v = (v ≤ n) × (count ≤ v)
+Inv-loop s n b count₀ v₀ count v = (v ≤ n) × (count ≤ v)
 
 abbrev μ-loop : tie.MeasureT-loop
-μ-loop s n count₀ v₀ count v = n - v
+μ-loop s n b count₀ v₀ count v = n - v
 
 loop-holds : tie.Need-loop-holds Inv-loop μ-loop
 loop-holds c = search needs
@@ -33,8 +33,8 @@ loop-again c = ⊎-elim (λ w. omega arith) (λ w. omega arith) (c .if1 .came)
 returns : tie.Need-returns Inv-loop μ-loop
 returns c = search needs
 
-pub blocked-places-spec : {M : Type 1} → statement M
-blocked-places-spec =
+pub places-with-spec : {M : Type 1} → statement M
+places-with-spec =
     tie.close
     (tie.spec
     Inv-loop

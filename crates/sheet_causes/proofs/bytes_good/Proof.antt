@@ -1,4 +1,4 @@
--- `sheet_causes::flags_good` meets its contract: the test of all the bytes is the test of those that are left. Assumes nothing.
+-- `sheet_causes::bytes_good` meets its contract: the test of all the bytes is the test of those that are left. Assumes nothing.
 use Prim.Native.Nat.{ℕ, _≤_, _-_}
 use mathlib.Core.Path.{_≡_, refl, sym, _∙_}
 use mathlib.Core.Bool.{Bool}
@@ -9,14 +9,14 @@ use borrow.Author.Tests.{le-leb, lt-leb}
 use Rattle.deck.specs.Lists.{all}
 use Rattle.sheet_parts.proofs.Scans.{all-passed, all-failed, all-done}
 use borrow.Author.Needs.{needs}
-use Rattle.sheet_causes.proofs.flags_good.Statement.{statement}
-use Rattle.sheet_causes.proofs.flags_good.Tie as tie
+use Rattle.sheet_causes.proofs.bytes_good.Statement.{statement}
+use Rattle.sheet_causes.proofs.bytes_good.Tie as tie
 
-abbrev flag : ℕ → Bool
-flag b = leb b 1
+abbrev good : ℕ → Bool
+good b = leb b 5
 
 abbrev Inv-loop : tie.InvT-loop
-Inv-loop g n k₀ k = (k ≤ n) × (all flag g ≡ all flag (drop k g))
+Inv-loop g n k₀ k = (k ≤ n) × (all good g ≡ all good (drop k g))
 
 abbrev μ-loop : tie.MeasureT-loop
 μ-loop g n k₀ k = n - k
@@ -32,7 +32,7 @@ returns c =
     let l = c .before .before .before in
     let g = l .before .args .g .now in
     sym (l .loop .inv .1
-    ∙ all-failed flag g (l .loop .k) 0 (omega arith) refl (sym (lt-leb (getD g (l .loop .k) 0) 1 (c .if1 .taken))) refl)
+    ∙ all-failed good g (l .loop .k) 0 (omega arith) refl (sym (lt-leb (getD g (l .loop .k) 0) 5 (c .if1 .taken))) refl)
 
 add-k : tie.Need-add-k Inv-loop μ-loop
 add-k c = search needs
@@ -46,16 +46,16 @@ loop-again c =
     let g = l .before .args .g .now in (
       omega arith,
       l .loop .inv .1
-          ∙ all-passed flag g (l .loop .k) 0 (omega arith) refl (sym (le-leb (getD g (l .loop .k) 0) 1 (c .if1 .left))) refl,
+          ∙ all-passed good g (l .loop .k) 0 (omega arith) refl (sym (le-leb (getD g (l .loop .k) 0) 5 (c .if1 .left))) refl,
     )
 
 returns-2 : tie.Need-returns-2 Inv-loop μ-loop
 returns-2 c =
     let l = c .before in
-    sym (l .loop .inv .1 ∙ all-done flag (l .before .args .g .now) (l .loop .k) (c .loop-test .left))
+    sym (l .loop .inv .1 ∙ all-done good (l .before .args .g .now) (l .loop .k) (c .loop-test .left))
 
-pub flags-good-spec : {M : Type 1} → statement M
-flags-good-spec =
+pub bytes-good-spec : {M : Type 1} → statement M
+bytes-good-spec =
     tie.close
     (tie.spec
     Inv-loop
