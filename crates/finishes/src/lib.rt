@@ -257,7 +257,8 @@ fn column(s: &[u8], j: Task, mask: &[u8; 1156], starts: &[usize; 12]) -> [u16; 1
         let none = [0u8; 1];
         return column_by(s, j, mask, &none[..0], starts);
     }
-    let doors = layers::doors(mask, wide, end, true);
+    let mut doors = [0u8; 6936];
+    layers::fill_doors(mask, wide, end, true, &mut doors);
     column_by(s, j, mask, &doors, starts)
 }
 

@@ -1,6 +1,6 @@
 -- A layer that is kept is read back, and stays where other words are written. Assumes nothing.
-use Prim.Native.Nat.{ℕ, _+_, _-_, _*_, _/_, _%_, _≤_, _<_}
-use mathlib.Core.Path.{_≡_, ap, _∙_}
+use Prim.Native.Nat.{ℕ, zero, suc, _+_, _-_, _*_, _/_, _%_, _^_, _≤_, _<_}
+use mathlib.Core.Path.{_≡_, refl, ap, _∙_}
 use mathlib.Core.List.{List}
 use native.Mathlib.Nat.{mul-add, add-mul, mul-le-mul-right}
 use native.Mathlib.Omega.{arith}
@@ -9,6 +9,14 @@ use Rattle.deck.specs.Sheet.{Sheet, area}
 use Rattle.bars.specs.Padded.{padOf, Holds}
 use Rattle.bars.proofs.Grid.{pad-least, pad-most}
 use Rattle.layers.specs.Packed.{byteIn, Kept, wordsFor, Laid}
+
+-- a byte of a word by a power of two
+pub byte-shifted : (x k : ℕ) → k < 4 → x / 2 ^ (8 * k) % 256 ≡ byteIn x k
+byte-shifted x zero h = omega arith
+byte-shifted x (suc zero) h = refl
+byte-shifted x (suc (suc zero)) h = refl
+byte-shifted x (suc (suc (suc zero))) h = refl
+byte-shifted x (suc (suc (suc (suc k)))) h = absurd (omega arith)
 
 -- the words that are kept reach over the rows of the grid
 words-reach : (w h : ℕ) → (w + 2) * h ≤ 4 * wordsFor w h

@@ -104,20 +104,12 @@ pub fn keep(layer: &[u8; 1156], from: usize, words: usize, work: &mut [u32], at:
     }
 }
 
+// The byte k of a word. By a shift: the trace asks for bytes that a branch on k could not foresee.
 fn byte_of(x: u32, k: usize) -> u32
     requires { ⌜ k < 4 ⌝ }
     ensures { λ r. ⌜ (r ≡ byteIn x k) × (r < 256) ⌝ }
 {
-    if k == 0 {
-        return x % 256;
-    }
-    if k == 1 {
-        return x / 256 % 256;
-    }
-    if k == 2 {
-        return x / 65536 % 256;
-    }
-    x / 16777216 % 256
+    (x >> (8 * k)) % 256
 }
 
 // The byte k of the bytes that are kept from the word `at` on.
@@ -194,16 +186,15 @@ fn way_doors(
     }
 }
 
-// For each of the five ways the bytes by which labels pass to the places, forward or backward, where some places are lanes.
-pub fn doors(mask: &[u8; 1156], wide: usize, end: usize, back: bool) -> [u8; 6936]
-    requires { ⌜ (1 ≤ wide) × (wide ≤ 34) × (wide ≤ end) × (end ≤ 1122) ⌝ }
-    ensures { λ r. ⌜ DoorsTo 5 (now (mask .entry)) wide end back r ⌝ }
+// Fills in, for each of the five ways, the bytes by which labels pass to the places, forward or backward, where some places are lanes.
+// In place, since a copy would cost a short path a measurable part of its time.
+pub fn fill_doors(mask: &[u8; 1156], wide: usize, end: usize, back: bool, doors: &mut [u8; 6936])
+    requires { ⌜ (1 ≤ wide) × (wide ≤ 34) × (wide ≤ end) × (end ≤ 1122) × (length (now doors) ≡ 6936) ⌝ }
+    ensures { λ _. ⌜ DoorsTo 5 (now (mask .entry)) wide end back (now (doors .exit)) ⌝ }
 {
-    let mut doors = [0u8; 6936];
     for x in 0..5usize {
-        way_doors(mask, wide, end, back, x, &mut doors);
+        way_doors(mask, wide, end, back, x, doors);
     }
-    doors
 }
 
 // Copies the bytes to the ways from `at` on.

@@ -100,12 +100,13 @@ module _ (s : List ℕ) (i : Carrier) (j : Task) (mask rs : List ℕ) (r : Ready
         (subst (λ (z : ℕ). Kept x (w + 2) (countIn rs + t * wordsFor w z) (wordsFor w z) before after) eh k)
 
   -- what one layer more asks, u being one less than t
-  pub back-asks : (goals : List ℕ) → Turned s j goals → (doors : List ℕ) → Doors mask (read s .width) (read s .height) true doors → (end t u : ℕ) → end ≤ read s .horizon → t ≤ end → t ≡ u + 1 → {heads a b work : List ℕ}
+  pub back-asks : (goals : List ℕ) → Turned s j goals → (doors : List ℕ) → Doors mask (read s .width) (read s .height) true doors
+      → {w h n : ℕ} → w ≡ read s .width → h ≡ read s .height → n ≡ length (goalsOf (read s) j) → (end t u : ℕ) → end ≤ read s .horizon → t ≤ end → t ≡ u + 1 → {heads a b work : List ℕ}
       → Holds (read s) a (hind (read s) i j (constraintsOf rs) (end - t) t) → Margin (read s .width) (read s .height) b → Backed s i j rs heads end t work
       → Ready s i j mask rs × Turned s j goals × (u < end) × (end ≤ read s .horizon) × Holds (read s) a (hind (read s) i j (constraintsOf rs) (end - (u + 1)) (u + 1))
       × Margin (read s .width) (read s .height) b × Backed s i j rs heads end (u + 1) work
-      × Doors mask (read s .width) (read s .height) true doors
-  back-asks goals g doors given end t u l m e {heads} {a} {b} {work} h mar bk = (
+      × Doors mask (read s .width) (read s .height) true doors × (w ≡ read s .width) × (h ≡ read s .height) × (n ≡ length (goalsOf (read s) j))
+  back-asks goals g doors given ew eh en end t u l m e {heads} {a} {b} {work} h mar bk = (
     r,
     g,
     omega arith,
@@ -114,6 +115,9 @@ module _ (s : List ℕ) (i : Carrier) (j : Task) (mask rs : List ℕ) (r : Ready
     mar,
     subst (λ (z : ℕ). Backed s i j rs heads end z work) e bk,
     given,
+    ew,
+    eh,
+    en,
   )
 
   -- the answer, read off the layer of time 0 at the start

@@ -8,7 +8,7 @@ ghost use mathlib.Core.List.{reverse};
 ghost use Prim.Native.Nat.{ℕ, _+_, _-_, _*_, _<_, _≤_};
 ghost use lib.ListN.{length, getD};
 ghost use lib.Dec.{leb, ltb};
-ghost use Rattle.deck.specs.Sheet.{read, startOf, cause};
+ghost use Rattle.deck.specs.Sheet.{read, startOf, goalsOf, cause};
 ghost use Rattle.deck.specs.Calls.{constraintsOf};
 ghost use Rattle.kernel.specs.Labels.{allGoals};
 ghost use Rattle.kernel.specs.Kernel.{hind, LeastTime};
@@ -169,11 +169,13 @@ pub fn forward(
             from,
         );
     }
-    let doors = layers::doors(mask, wide, end, false);
+    let mut doors = [0u8; 6936];
+    layers::fill_doors(mask, wide, end, false, &mut doors);
     forward_by(s, i, j, mask, &doors, goals, records, heads, links, from)
 }
 
-// One layer of the backward pass from `end`: the layer of time t, from that of t + 1, kept in the workspace.
+// One layer of the backward pass from `end`: the layer of time t, from that of t + 1, kept in the workspace. The sheet's width and height
+// and the number of goals are handed in, so that they are not read for every layer.
 fn back_step(
     s: &[u8],
     i: Carrier,
@@ -183,18 +185,18 @@ fn back_step(
     goals: &[usize; 8],
     records: &[u16],
     heads: &[u16; 256],
+    w: usize,
+    h: usize,
+    n: usize,
     end: usize,
     t: usize,
     src: &[u8; 1156],
     dst: &mut [u8; 1156],
     work: &mut [u32],
 )
-    requires { ⌜ Ready (now s) i j (now mask) (now records) × Turned (now s) j (now goals) × (t < end) × (end ≤ read (now s) .horizon) × Holds (read (now s)) (now src) (hind (read (now s)) i j (constraintsOf (now records)) (end - (t + 1)) (t + 1)) × Margin (read (now s) .width) (read (now s) .height) (now dst) × Backed (now s) i j (now records) (now heads) end (t + 1) (now work) × Doors (now mask) (read (now s) .width) (read (now s) .height) true (now doors) ⌝ }
+    requires { ⌜ Ready (now s) i j (now mask) (now records) × Turned (now s) j (now goals) × (t < end) × (end ≤ read (now s) .horizon) × Holds (read (now s)) (now src) (hind (read (now s)) i j (constraintsOf (now records)) (end - (t + 1)) (t + 1)) × Margin (read (now s) .width) (read (now s) .height) (now dst) × Backed (now s) i j (now records) (now heads) end (t + 1) (now work) × Doors (now mask) (read (now s) .width) (read (now s) .height) true (now doors) × (w ≡ read (now s) .width) × (h ≡ read (now s) .height) × (n ≡ length (goalsOf (read (now s)) j)) ⌝ }
     ensures { λ _. ⌜ Holds (read (now (s .entry))) (now (dst .exit)) (hind (read (now (s .entry))) i j (constraintsOf (now (records .entry))) (end - t) t) × Backed (now (s .entry)) i j (now (records .entry)) (now (heads .entry)) end t (now (work .exit)) ⌝ }
 {
-    let w = sheet::width(s);
-    let h = sheet::height(s);
-    let n = sheet::goal_count(s, j);
     layers::step(
         mask,
         doors,
@@ -252,6 +254,9 @@ fn backward_by(
             goals,
             records,
             heads,
+            w,
+            h,
+            n,
             end,
             t - 1,
             &a,
@@ -267,6 +272,9 @@ fn backward_by(
             goals,
             records,
             heads,
+            w,
+            h,
+            n,
             end,
             t - 2,
             &b,
@@ -285,6 +293,9 @@ fn backward_by(
             goals,
             records,
             heads,
+            w,
+            h,
+            n,
             end,
             0,
             &a,
@@ -318,6 +329,7 @@ pub fn backward(
         let none = [0u8; 1];
         return backward_by(s, i, j, mask, &none[..0], goals, records, heads, end, work);
     }
-    let doors = layers::doors(mask, wide, rows, true);
+    let mut doors = [0u8; 6936];
+    layers::fill_doors(mask, wide, rows, true, &mut doors);
     backward_by(s, i, j, mask, &doors, goals, records, heads, end, work)
 }

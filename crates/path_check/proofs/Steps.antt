@@ -1,20 +1,21 @@
 -- Steps and finishes: what the code tests, against the definitions. Assumes nothing.
 use Prim.Native.Nat.{ℕ, suc, _-_, _/_, _%_, _≤_, _<_}
-use mathlib.Core.Path.{_≡_, sym}
+use mathlib.Core.Path.{_≡_, refl, sym, ap}
 use mathlib.Core.Logic.{_⊎_, inl, inr, ⊎-elim}
-use mathlib.Core.Bool.{Bool, true, false}
+use mathlib.Core.Bool.{Bool, true, false, not}
 use mathlib.Core.List.{List}
 use native.Mathlib.Nat.{eq-or-lt-of-le}
 use native.Mathlib.Omega.{arith}
 use lib.ListN.{length, getD}
 use lib.Dec.{eqb}
-use borrow.Author.Tests.{eq-eqb, ne-eqb}
-use Rattle.deck.specs.Sheet.{Sheet, gridByte}
+use borrow.Author.Tests.{eq-eqb, ne-eqb, lt-ltb, le-ltb}
+use Rattle.deck.specs.Sheet.{Sheet, area, gridByte, free}
 use Rattle.deck.specs.Paths.{oneApart, nextTo, mayLeave, beside, finish}
 use Rattle.meaning.specs.Meaning.{OneApart}
 use Rattle.meaning.proofs.Tests.{Says, same-test, says-eqb, is-false}
 use Rattle.meaning.proofs.Paths.{apart-meant, next-meant}
 use Rattle.meaning.proofs.Finish.{finish-rests, finish-least}
+use Rattle.path_check.specs.Grids.{GridOf}
 
 -- two tests that say the same are the same
 pub same-says : {a b : Bool} {P Q : Type 0} → Says a P → Says b Q → (P → Q) → (Q → P) → a ≡ b
@@ -70,6 +71,21 @@ module _ (w b u v : ℕ) where
   pub leave-any : (b ≡ 2 → ⊥) → (b ≡ 3 → ⊥) → (b ≡ 4 → ⊥) → (b ≡ 5 → ⊥) → true ≡ mayLeave w b u v
   unfolding mayLeave
   leave-any n e s k = rw (ne-eqb b 2 n, ne-eqb b 3 e, ne-eqb b 4 s, ne-eqb b 5 k)
+
+-- what is read of the grid
+module _ (d : Sheet) (w : ℕ) (g : List ℕ) (o : GridOf d w g) (v : ℕ) where
+  pub byte-is : getD g v 0 ≡ gridByte d v
+  byte-is = ap (λ l. getD l v 0) (o .bytes)
+
+  pub free-inside : v < length g → not (eqb (getD g v 0) 1) ≡ free d v
+  free-inside h =
+      let l : v < area d = omega (arith, o .whole) in
+      rw (lt-ltb v (area d) l) (ap (λ b. not (eqb b 1)) byte-is)
+
+  pub free-outside : length g ≤ v → false ≡ free d v
+  free-outside h =
+      let l : area d ≤ v = omega (arith, o .whole) in
+      rw (le-ltb v (area d) l) refl
 
 -- the two tests of beside, the second only where the first holds
 module _ (d : Sheet) (u v w : ℕ) (e : w ≡ d .width) where

@@ -2,14 +2,16 @@
 use deck::Carrier;
 use deck::PathAnswer;
 use deck::Task;
+use sheet_parts::GRID;
 ghost use mathlib.Core.Path.{_≡_};
-ghost use Prim.Native.Nat.{suc, _<_, _≤_};
+ghost use Prim.Native.Nat.{ℕ, suc, _<_, _≤_};
 ghost use lib.Dec.{eqb};
-ghost use lib.ListN.{length, drop};
+ghost use lib.ListN.{length, getD, drop};
 ghost use Rattle.deck.specs.Lists.{isNil};
-ghost use Rattle.deck.specs.Sheet.{read, cause, widthOf, horizonOf, goalsOf};
+ghost use Rattle.deck.specs.Sheet.{Sheet, read, cause, widthOf, horizonOf, words, free};
 ghost use Rattle.deck.specs.Paths.{oneApart, nextTo, mayLeave, beside, mayStep, visit, left, finish as finishOn, finishOf};
 ghost use Rattle.deck.specs.PlanCheck.{follows};
+ghost use Rattle.path_check.specs.Grids.{GridOf};
 ghost use Rattle.path_check.specs.Answers.{pathAnswer};
 
 fn wide(x: u16) -> usize
@@ -70,39 +72,54 @@ fn may_leave(w: usize, b: u8, u: usize, v: usize) -> bool
     true
 }
 
+// The grid byte of the place v, 0 past the grid.
+fn grid_byte(grid: &[u8], v: usize) -> u8
+    ensures { λ r. ⌜ r ≡ getD (now (grid .entry)) v 0 ⌝ }
+{
+    if v < grid.len() { grid[v] } else { 0 }
+}
+
+// v is a place of the grid that is not blocked.
+fn is_free(grid: &[u8], v: usize) -> bool
+    ensures { λ r. ⌜ ((d : Sheet) (w : ℕ) → GridOf d w (now (grid .entry)) → r ≡ free d v) ⌝ }
+{
+    if v < grid.len() { grid[v] != 1 } else { false }
+}
+
 // v is beside u, seen from u: next to it, and u may be left to it.
-fn is_beside(s: &[u8], w: usize, u: usize, v: usize) -> bool
-    requires { ⌜ (cause (now s) ≡ 0) × (w ≡ widthOf (now s)) ⌝ }
-    ensures { λ r. ⌜ r ≡ beside (read (now (s .entry))) u v ⌝ }
+fn is_beside(grid: &[u8], w: usize, u: usize, v: usize) -> bool
+    requires { ⌜ 0 < w ⌝ }
+    ensures { λ r. ⌜ ((d : Sheet) → GridOf d w (now (grid .entry)) → r ≡ beside d u v) ⌝ }
 {
     if next_to(w, u, v) {
-        return may_leave(w, sheet::grid_byte(s, u), u, v);
+        return may_leave(w, grid_byte(grid, u), u, v);
     }
     false
 }
 
 // A step may go from u to v.
-fn may_step(s: &[u8], w: usize, u: usize, v: usize) -> bool
-    requires { ⌜ (cause (now s) ≡ 0) × (w ≡ widthOf (now s)) ⌝ }
-    ensures { λ r. ⌜ r ≡ mayStep (read (now (s .entry))) u v ⌝ }
+fn may_step(grid: &[u8], w: usize, u: usize, v: usize) -> bool
+    requires { ⌜ 0 < w ⌝ }
+    ensures { λ r. ⌜ ((d : Sheet) → GridOf d w (now (grid .entry)) → r ≡ mayStep d u v) ⌝ }
 {
     if u == v {
         return true;
     }
-    if sheet::is_free(s, v) {
-        return is_beside(s, w, u, v);
+    if is_free(grid, v) {
+        return is_beside(grid, w, u, v);
     }
     false
 }
 
-// Each place of the path is a step from the one before.
-fn goes(s: &[u8], w: usize, path: &[u16]) -> bool
-    requires { ⌜ (cause (now s) ≡ 0) × (w ≡ widthOf (now s)) ⌝ }
-    ensures { λ r. ⌜ r ≡ follows (read (now (s .entry))) (now (path .entry)) ⌝ }
+// Each place of the path is a step from the one before. The grid is handed in, so that the sheet's directory is not read for every
+// step.
+fn goes(grid: &[u8], w: usize, path: &[u16]) -> bool
+    requires { ⌜ 0 < w ⌝ }
+    ensures { λ r. ⌜ ((d : Sheet) → GridOf d w (now (grid .entry)) → r ≡ follows d (now (path .entry))) ⌝ }
 {
     let mut t = 0;
     while t + 1 < path.len() {
-        if !may_step(s, w, wide(path[t]), wide(path[t + 1])) {
+        if !may_step(grid, w, wide(path[t]), wide(path[t + 1])) {
             return false;
         }
         t = t + 1;
@@ -110,16 +127,16 @@ fn goes(s: &[u8], w: usize, path: &[u16]) -> bool
     true
 }
 
-// How many goals of the task are visited once its carrier is on x, where k were visited before.
-fn visited(s: &[u8], j: Task, x: usize, k: usize) -> usize
-    requires { ⌜ k ≤ length (goalsOf (read (now s)) j) ⌝ }
-    ensures { λ r. ⌜ r ≤ length (goalsOf (read (now (s .entry))) j) ⌝ }
-    ensures { λ r. ⌜ visit x (drop k (goalsOf (read (now (s .entry))) j)) ≡ drop r (goalsOf (read (now (s .entry))) j) ⌝ }
+// How many goals are visited once the carrier is on x, where k were visited before.
+fn visited(goals: &[u8], x: usize, k: usize) -> usize
+    requires { ⌜ k ≤ length (words (now goals)) ⌝ }
+    ensures { λ r. ⌜ r ≤ length (words (now (goals .entry))) ⌝ }
+    ensures { λ r. ⌜ visit x (drop k (words (now (goals .entry)))) ≡ drop r (words (now (goals .entry))) ⌝ }
 {
-    let count = sheet::goal_count(s, j);
+    let count = goals.len() / 2;
     let mut n = k;
     while n < count {
-        if sheet::goal(s, j, n) != x {
+        if sheet_parts::nth_word(goals, n) != x {
             return n;
         }
         n = n + 1;
@@ -127,15 +144,15 @@ fn visited(s: &[u8], j: Task, x: usize, k: usize) -> usize
     n
 }
 
-// The path visits the goals of the task in order.
-fn visits_all(s: &[u8], j: Task, path: &[u16]) -> bool
-    ensures { λ r. ⌜ r ≡ isNil (left (now (path .entry)) (goalsOf (read (now (s .entry))) j)) ⌝ }
+// The path visits the goals in order. Their words are handed in, so that the sheet's directory is not read for every place.
+fn visits_all(goals: &[u8], path: &[u16]) -> bool
+    ensures { λ r. ⌜ r ≡ isNil (left (now (path .entry)) (words (now (goals .entry)))) ⌝ }
 {
     let mut k = 0;
     for t in 0..path.len() {
-        k = visited(s, j, wide(path[t]), k);
+        k = visited(goals, wide(path[t]), k);
     }
-    k == sheet::goal_count(s, j)
+    k == goals.len() / 2
 }
 
 // The least time from which the path stays on g; the length of the path where there is none.
@@ -167,10 +184,10 @@ pub fn path_finish(s: &[u8], w: usize, h: usize, i: Carrier, j: Task, path: &[u1
     if wide(path[0]) != sheet::start(s, i) {
         return PathAnswer::NoPath;
     }
-    if !goes(s, w, path) {
+    if !goes(sheet_parts::stretch(s, GRID), w, path) {
         return PathAnswer::NoPath;
     }
-    if !visits_all(s, j, path) {
+    if !visits_all(sheet_parts::task_part(s, j), path) {
         return PathAnswer::NoPath;
     }
     let t = finish_of(s, j, path);

@@ -39,14 +39,23 @@ column-by-requires c κs = (c .before .before .before .before .before .before .p
 returns : tie.Need-returns
 returns c = search needs
 
-doors-requires : tie.Need-doors-requires
-doors-requires c κs = rows-of (c .before .before .before .before .before .args .s .now) (c .before .before .before .before .before .pre .0) (c .before .before .before .before .before .args .j) (c .before .before .before .width .result) (c .before .before .height .result) (c .before .before .before .width .ensures .0) (c .before .before .height .ensures .0)
+fill-doors-requires : tie.Need-fill-doors-requires
+fill-doors-requires c κs =
+    let h = c .before .before .before in
+    let w = h .before in
+    let s = w .before .before in
+    let q = rows-of (s .args .s .now) (s .pre .0) (s .args .j) (w .width .result) (h .height .result) (w .width .ensures .0) (h .height .ensures .0) in
+    (q .0, q .1, q .2, q .3, refl)
 
 slice-aggregate-column-by-2 : tie.Need-slice-aggregate-column-by-2
 slice-aggregate-column-by-2 c = search needs
 
 column-by-requires-2 : tie.Need-column-by-requires-2
-column-by-requires-2 c κs = (c .before .before .before .before .before .before .before .pre .0, c .before .before .before .before .before .before .before .pre .1, c .before .before .before .before .before .before .before .pre .2, c .before .before .before .before .before .before .before .pre .3, given-doors (c .before .before .before .before .before .before .before .args .mask .now) (c .before .before .before .before .before .width .result) (c .before .before .before .before .height .result) (c .before .before .before .before .before .width .ensures .0) (c .before .before .before .before .height .ensures .0) true (c .before .doors .result) (c .before .doors .ensures))
+column-by-requires-2 c κs =
+    let h = c .before .before .before .before .before in
+    let w = h .before in
+    let s = w .before .before in
+    (s .pre .0, s .pre .1, s .pre .2, s .pre .3, given-doors (s .args .mask .now) (w .width .result) (h .height .result) (w .width .ensures .0) (h .height .ensures .0) true _ (c .before .fill-doors .ensures))
 
 returns-2 : tie.Need-returns-2
 returns-2 c = search needs
@@ -65,7 +74,7 @@ column-spec =
     slice-aggregate-column-by
     column-by-requires
     returns
-    doors-requires
+    fill-doors-requires
     slice-aggregate-column-by-2
     column-by-requires-2
     returns-2)

@@ -42,14 +42,22 @@ same-length c = search needs
 returns : tie.Need-returns
 returns c = search needs
 
-doors-requires : tie.Need-doors-requires
-doors-requires c κs = rows-in (c .before .before .before .before .before .before .before .pre .0) (c .before .before .before .width .result) (c .before .before .height .result) (c .before .before .before .width .ensures .0) (c .before .before .height .ensures .0)
+fill-doors-requires : tie.Need-fill-doors-requires
+fill-doors-requires c κs =
+    let h = c .before .before .before in
+    let w = h .before in
+    let q = rows-in (w .before .before .before .before .pre .0) (w .width .result) (h .height .result) (w .width .ensures .0) (h .height .ensures .0) in
+    (q .0, q .1, q .2, q .3, refl)
 
 slice-aggregate-backward-by-2 : tie.Need-slice-aggregate-backward-by-2
 slice-aggregate-backward-by-2 c = search needs
 
 backward-by-requires-2 : tie.Need-backward-by-requires-2
-backward-by-requires-2 c κs = (c .before .before .before .before .before .before .before .before .before .before .pre .0, c .before .before .before .before .before .before .before .before .before .before .pre .1, c .before .before .before .before .before .before .before .before .before .before .pre .2, c .before .before .before .before .before .before .before .before .before .before .pre .3, c .before .before .before .before .before .before .before .before .before .before .pre .4, given-doors (c .before .before .before .before .before .before .before .before .before .before .args .mask .now) (c .before .before .before .before .before .before .width .result) (c .before .before .before .before .before .height .result) (c .before .before .before .before .before .before .width .ensures .0) (c .before .before .before .before .before .height .ensures .0) true (c .before .before .doors .result) (c .before .before .doors .ensures))
+backward-by-requires-2 c κs =
+    let h = c .before .before .before .before .before .before in
+    let w = h .before in
+    let s = w .before .before .before .before in
+    (s .pre .0, s .pre .1, s .pre .2, s .pre .3, s .pre .4, given-doors (s .args .mask .now) (w .width .result) (h .height .result) (w .width .ensures .0) (h .height .ensures .0) true _ (c .before .before .fill-doors .ensures))
 
 same-length-2 : tie.Need-same-length-2
 same-length-2 c = search needs
@@ -72,7 +80,7 @@ backward-spec =
     backward-by-requires
     same-length
     returns
-    doors-requires
+    fill-doors-requires
     slice-aggregate-backward-by-2
     backward-by-requires-2
     same-length-2

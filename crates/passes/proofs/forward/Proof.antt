@@ -39,14 +39,22 @@ forward-by-requires c κs = (c .before .before .before .before .before .before .
 returns : tie.Need-returns
 returns c = search needs
 
-doors-requires : tie.Need-doors-requires
-doors-requires c κs = rows-in (c .before .before .before .before .before .before .before .pre .0) (c .before .before .before .width .result) (c .before .before .height .result) (c .before .before .before .width .ensures .0) (c .before .before .height .ensures .0)
+fill-doors-requires : tie.Need-fill-doors-requires
+fill-doors-requires c κs =
+    let h = c .before .before .before in
+    let w = h .before in
+    let q = rows-in (w .before .before .before .before .pre .0) (w .width .result) (h .height .result) (w .width .ensures .0) (h .height .ensures .0) in
+    (q .0, q .1, q .2, q .3, refl)
 
 slice-aggregate-forward-by-2 : tie.Need-slice-aggregate-forward-by-2
 slice-aggregate-forward-by-2 c = search needs
 
 forward-by-requires-2 : tie.Need-forward-by-requires-2
-forward-by-requires-2 c κs = (c .before .before .before .before .before .before .before .before .before .pre .0, c .before .before .before .before .before .before .before .before .before .pre .1, c .before .before .before .before .before .before .before .before .before .pre .2, c .before .before .before .before .before .before .before .before .before .pre .3, given-doors (c .before .before .before .before .before .before .before .before .before .args .mask .now) (c .before .before .before .before .before .width .result) (c .before .before .before .before .height .result) (c .before .before .before .before .before .width .ensures .0) (c .before .before .before .before .height .ensures .0) false (c .before .doors .result) (c .before .doors .ensures))
+forward-by-requires-2 c κs =
+    let h = c .before .before .before .before .before in
+    let w = h .before in
+    let s = w .before .before .before .before in
+    (s .pre .0, s .pre .1, s .pre .2, s .pre .3, given-doors (s .args .mask .now) (w .width .result) (h .height .result) (w .width .ensures .0) (h .height .ensures .0) false _ (c .before .fill-doors .ensures))
 
 returns-2 : tie.Need-returns-2
 returns-2 c = search needs
@@ -65,7 +73,7 @@ forward-spec =
     slice-aggregate-forward-by
     forward-by-requires
     returns
-    doors-requires
+    fill-doors-requires
     slice-aggregate-forward-by-2
     forward-by-requires-2
     returns-2)

@@ -4,20 +4,21 @@ use mathlib.Core.Path.{_≡_, refl, sym, _∙_}
 use native.Mathlib.Omega.{arith}
 use lib.ListN.{length, drop}
 use borrow.Author.Tests.{not-true, not-false}
-use Rattle.deck.specs.Sheet.{read}
+use Rattle.deck.specs.Sheet.{Sheet}
 use Rattle.deck.specs.PlanCheck.{follows}
+use Rattle.path_check.specs.Grids.{GridOf}
 use Rattle.path_check.proofs.Walks.{goes-next, goes-shut, goes-over}
 use Rattle.path_check.proofs.goes.Statement.{statement}
 use Rattle.path_check.proofs.goes.Tie as tie
 
 abbrev Inv-loop : tie.InvT-loop
-Inv-loop s w path t₀ t = (t ≤ length path) × (follows (read s) path ≡ follows (read s) (drop t path))
+Inv-loop grid w path t₀ t = (t ≤ length path) × ((d : Sheet) → GridOf d w grid → follows d path ≡ follows d (drop t path))
 
 abbrev μ-loop : tie.MeasureT-loop
-μ-loop s w path t₀ t = length path - t
+μ-loop grid w path t₀ t = length path - t
 
 loop-holds : tie.Need-loop-holds Inv-loop μ-loop
-loop-holds c = (omega arith, refl)
+loop-holds c = (omega arith, λ d o. refl)
 
 add-loop : tie.Need-add-loop Inv-loop μ-loop
 add-loop c = omega arith
@@ -49,7 +50,7 @@ may-step-requires c κs = c .before .before .before .before .before .before .bef
 returns : tie.Need-returns Inv-loop μ-loop
 returns c =
     let l = c .before .before .before .before .before .before in
-    sym (l .before .loop .inv .1 ∙ goes-shut _ _ _ (l .loop-test .taken) (c .before .before .before .before .wide .ensures .0) (c .before .before .wide2 .ensures .0) (c .before .may-step .ensures) (not-true _ (c .if1 .taken)))
+    λ d o. sym (l .before .loop .inv .1 d o ∙ goes-shut d _ _ (l .loop-test .taken) (c .before .before .before .before .wide .ensures .0) (c .before .before .wide2 .ensures .0) (c .before .may-step .ensures d o) (not-true _ (c .if1 .taken)))
 
 add-t : tie.Need-add-t Inv-loop μ-loop
 add-t c = omega arith
@@ -60,10 +61,10 @@ loop-less c = omega arith
 loop-again : tie.Need-loop-again Inv-loop μ-loop
 loop-again c =
     let l = c .before .before .before .before .before .before in
-    (omega arith, l .before .loop .inv .1 ∙ goes-next _ _ _ (l .loop-test .taken) (c .before .before .before .before .wide .ensures .0) (c .before .before .wide2 .ensures .0) (c .before .may-step .ensures) (not-false _ (c .if1 .left)))
+    (omega arith, λ d o. l .before .loop .inv .1 d o ∙ goes-next d _ _ (l .loop-test .taken) (c .before .before .before .before .wide .ensures .0) (c .before .before .wide2 .ensures .0) (c .before .may-step .ensures d o) (not-false _ (c .if1 .left)))
 
 returns-2 : tie.Need-returns-2 Inv-loop μ-loop
-returns-2 c = sym (c .before .loop .inv .1 ∙ goes-over _ _ _ (c .loop-test .left))
+returns-2 c = λ d o. sym (c .before .loop .inv .1 d o ∙ goes-over d _ _ (c .loop-test .left))
 
 pub goes-spec : {M : Type 1} → statement M
 goes-spec =

@@ -6,7 +6,7 @@ use Rattle.path_check.proofs.may_step.Statement.{statement}
 use Rattle.path_check.proofs.may_step.Tie as tie
 
 returns : tie.Need-returns
-returns c = step-wait _ _ _ (c .if1 .taken)
+returns c = λ d o. step-wait d _ _ (c .if1 .taken)
 
 is-free-requires : tie.Need-is-free-requires
 is-free-requires c κs = search needs
@@ -17,12 +17,12 @@ is-beside-requires c κs = search needs
 returns-2 : tie.Need-returns-2
 returns-2 c =
     let f = c .before .before in
-    c .is-beside .ensures ∙ step-free _ _ _ (f .before .if1 .left) (sym (f .is-free .ensures) ∙ c .before .if2 .taken)
+    λ d o. c .is-beside .ensures d o ∙ step-free d _ _ (f .before .if1 .left) (sym (f .is-free .ensures d _ o) ∙ c .before .if2 .taken)
 
 returns-3 : tie.Need-returns-3
 returns-3 c =
     let f = c .before in
-    step-shut _ _ _ (f .before .if1 .left) (sym (f .is-free .ensures) ∙ c .if2 .left)
+    λ d o. step-shut d _ _ (f .before .if1 .left) (sym (f .is-free .ensures d _ o) ∙ c .if2 .left)
 
 pub may-step-spec : {M : Type 1} → statement M
 may-step-spec =

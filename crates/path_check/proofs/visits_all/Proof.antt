@@ -7,21 +7,22 @@ use lib.ListN.{length, drop}
 use lib.Dec.{eqb}
 use denote.Ref.{now}
 use Rattle.deck.specs.Lists.{isNil}
-use Rattle.deck.specs.Sheet.{read, goalsOf}
+use Rattle.deck.specs.Sheet.{words}
 use Rattle.deck.specs.Paths.{left}
+use Rattle.sheet_parts.proofs.Words.{length-words}
 use Rattle.path_check.proofs.Walks.{left-next, left-over, none-left}
 use Rattle.path_check.proofs.visits_all.Statement.{statement}
 use Rattle.path_check.proofs.visits_all.Tie as tie
 
 abbrev Inv-loop : tie.InvT-loop
-Inv-loop s j path k₀ t₀ t-end k t =
-    (k ≤ length (goalsOf (read s) j)) × (left path (goalsOf (read s) j) ≡ left (drop t path) (drop k (goalsOf (read s) j)))
+Inv-loop goals path k₀ t₀ t-end k t =
+    (k ≤ length (words goals)) × (left path (words goals) ≡ left (drop t path) (drop k (words goals)))
 
 abbrev μ-loop : tie.MeasureT-loop
-μ-loop s j path k₀ t₀ t-end k t = t-end - t
+μ-loop goals path k₀ t₀ t-end k t = t-end - t
 
 abbrev goals : tie.Start Inv-loop μ-loop → List ℕ
-goals s = goalsOf (read (now (s .args .s))) (s .args .j)
+goals s = words (now (s .args .goals))
 
 loop-holds : tie.Need-loop-holds Inv-loop μ-loop
 loop-holds c = (omega arith, refl)
@@ -50,14 +51,11 @@ loop-again c =
     let s = l .before .before .before .before in
     (c .visited .ensures .0, l .before .loop .inv .1 ∙ left-next _ (goals s) _ (l .before .loop .k) (c .visited .result) (l .loop-test .taken) (c .before .wide .ensures .0) (c .visited .ensures .1))
 
-goal-count-requires : tie.Need-goal-count-requires Inv-loop μ-loop
-goal-count-requires c κs = tt
-
 returns : tie.Need-returns Inv-loop μ-loop
 returns c =
-    let l = c .before .before in
+    let l = c .before in
     let s = l .before .before .before in
-    ap (eqb (l .loop .k)) (c .goal-count .ensures .0) ∙ none-left (goals s) (l .loop .k) (l .loop .inv .0) ∙ sym (ap isNil (l .loop .inv .1 ∙ left-over _ (goals s) _ (l .loop .k) (c .before .loop-test .left)))
+    ap (eqb (l .loop .k)) (sym (length-words (now (s .args .goals)))) ∙ none-left (goals s) (l .loop .k) (l .loop .inv .0) ∙ sym (ap isNil (l .loop .inv .1 ∙ left-over _ (goals s) _ (l .loop .k) (c .loop-test .left)))
 
 pub visits-all-spec : {M : Type 1} → statement M
 visits-all-spec =
@@ -73,5 +71,4 @@ visits-all-spec =
     add-t
     loop-less
     loop-again
-    goal-count-requires
     returns)

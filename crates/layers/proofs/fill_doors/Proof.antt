@@ -1,12 +1,11 @@
--- `layers::doors` meets its contract: the ways passed have their bytes. Assumes nothing.
+-- `layers::fill_doors` meets its contract: the ways passed have their bytes. Assumes nothing.
 use borrow.Author.Needs.{needs}
 use native.Mathlib.Omega.{arith}
 use Prim.Native.Nat.{_≤_, _-_}
-use mathlib.Core.Path.{refl}
 use Rattle.layers.specs.Step.{DoorsTo}
 use Rattle.layers.proofs.Advancing.{doors-none, doors-more, doors-all}
-use Rattle.layers.proofs.doors.Statement.{statement}
-use Rattle.layers.proofs.doors.Tie as tie
+use Rattle.layers.proofs.fill_doors.Statement.{statement}
+use Rattle.layers.proofs.fill_doors.Tie as tie
 
 abbrev Inv-loop : tie.InvT-loop
 Inv-loop mask wide end back doors₀ x₀ doors x = (x ≤ 5) × DoorsTo x mask wide end back doors
@@ -15,7 +14,7 @@ abbrev μ-loop : tie.MeasureT-loop
 μ-loop mask wide end back doors₀ x₀ doors x = 5 - x
 
 loop-holds : tie.Need-loop-holds Inv-loop μ-loop
-loop-holds c = (omega arith, doors-none _ _ _ _ (omega arith) refl)
+loop-holds c = (omega arith, doors-none _ _ _ _ (omega arith) (c .pre .4))
 
 way-doors-requires : tie.Need-way-doors-requires Inv-loop μ-loop
 way-doors-requires c κs = (omega arith, omega arith, omega arith, omega arith, omega arith, c .before .before .loop .inv .1 .size)
@@ -32,7 +31,7 @@ loop-again c = (omega arith, doors-more _ _ _ _ (omega arith) _ (c .before .befo
 returns : tie.Need-returns Inv-loop μ-loop
 returns c = doors-all _ _ _ _ (omega arith) (omega arith) (c .before .loop .inv .1)
 
-pub doors-spec : {M : Type 1} → statement M
-doors-spec =
+pub fill-doors-spec : {M : Type 1} → statement M
+fill-doors-spec =
     tie.close
     (tie.spec Inv-loop μ-loop loop-holds way-doors-requires add-x loop-less loop-again returns)
