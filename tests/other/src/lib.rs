@@ -38,10 +38,10 @@ pub fn kinds() -> impl Iterator<Item = &'static str> {
     KINDS.into_iter().chain(later.into_iter().filter_map(|(kind, made)| made.then_some(kind)))
 }
 
-/// A sheet of one of these kinds. Of every four seeds two may use what the changes in force bring, and two use nothing of it, so that
-/// the sheets of document 01 are compared as well; bad sheets, and the kinds of a change, always may.
+/// A sheet of one of these kinds. Of every six pairs of seeds five may use what the changes in force bring, and one uses nothing of
+/// it, so that the sheets of document 01 are compared as well; bad sheets, and the kinds of a change, always may.
 pub fn generated(kind: &str, seed: u64) -> Vec<u8> {
-    if kind != "damaged" && KINDS.contains(&kind) && seed / 2 % 2 == 0 {
+    if kind != "damaged" && KINDS.contains(&kind) && seed / 2 % 6 == 0 {
         return plain(kind, seed);
     }
     gen_changes::input(RULES, kind, seed).expect("a kind of the generator")
