@@ -1,6 +1,6 @@
 //! What the page and the picture draw alike: the floor, goals, carriers, colours. A place is 32 units wide.
 
-use std::collections::BTreeMap;
+use std::collections::{BTreeMap, BTreeSet};
 use std::fmt::Write;
 
 use carrier_planner::{Carrier, Direction, Place, Plan, Sheet, Task};
@@ -118,9 +118,16 @@ pub fn ground(sheet: &Sheet) -> String {
     svg
 }
 
-/// The lanes: an arrow to the side by which each is left, with a title in words. Its head lies at the edge, so that a goal or a carrier
-/// on the place leaves it in sight.
+/// Whether the floor has lanes, so that their sign has to be explained.
+pub fn has_lanes(sheet: &Sheet) -> bool {
+    sheet.places().any(|place| sheet.lane(place).is_some())
+}
+
+/// The lanes: an arrow to the side by which each is left, with a title in words. Where a carrier starts or a task has a goal, which
+/// cover the middle of a place, a small head stands in a corner too.
 fn lanes(sheet: &Sheet) -> String {
+    let starts = sheet.carriers().filter_map(|carrier| sheet.start(carrier));
+    let covered: BTreeSet<Place> = starts.chain(sheet.tasks().flat_map(|task| sheet.goals(task))).collect();
     let mut svg = String::new();
     for (place, direction) in sheet.places().filter_map(|place| Some((place, sheet.lane(place)?))) {
         let (x, y) = corner(sheet, place);
@@ -130,10 +137,12 @@ fn lanes(sheet: &Sheet) -> String {
             Direction::South => 180,
             Direction::West => 270,
         };
+        let small =
+            if covered.contains(&place) { "<path class=\"head\" d=\"M4 .6L7.2 6.2H.8z\"/>" } else { "" };
         let _ = writeln!(
             svg,
             "<g class=\"lane\" data-lane=\"{direction}\" transform=\"translate({x} {y}) rotate({turn} 16 16)\"><title>lane at {}: \
-             left only to the {direction}</title><path class=\"shaft\" d=\"M16 29V8\"/><path class=\"head\" d=\"M16 1.5L24 10.5H8z\"/></g>",
+             left only to the {direction}</title><path class=\"shaft\" d=\"M16 29V8\"/><path class=\"head\" d=\"M16 1.5L24 10.5H8z\"/>{small}</g>",
             point(sheet, place)
         );
     }

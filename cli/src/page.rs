@@ -128,7 +128,7 @@ fn keys(plan: &Plan) -> String {
 }
 
 fn legend(sheet: &Sheet) -> String {
-    let lanes = if sheet.places().any(|place| sheet.lane(place).is_some()) {
+    let lanes = if floor::has_lanes(sheet) {
         "; an arrow is a lane, which a carrier leaves only that way"
     } else {
         ""

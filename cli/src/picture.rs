@@ -212,6 +212,9 @@ fn entries(sheet: &Sheet, answer: &Answer, most: usize) -> Vec<(Option<Carrier>,
             entries.push((mark.filter(|_| index == 0), line));
         }
     };
+    if floor::has_lanes(sheet) {
+        add(None, "In grey an arrow is a lane, which a carrier leaves only that way.".to_string());
+    }
     let Some(plan) = answer.plan() else {
         for carrier in sheet.carriers() {
             let start = sheet.start(carrier).map(|place| point(sheet, place)).unwrap_or_default();

@@ -86,6 +86,8 @@ fn lanes_are_drawn_and_said() {
         let text = deckplan(&[command, "--as-text"], sheet.as_bytes()).printed();
         well_formed(command, &text);
         assert_eq!(text.matches("class=\"lane\"").count(), 5, "{command}");
+        // One of them lies under a goal, and has a small head in a corner beside.
+        assert_eq!(text.matches("class=\"head\"").count(), 6, "{command}");
         for (place, direction, turn) in
             [("1,0", "east", 90), ("2,0", "west", 270), ("0,1", "north", 0), ("1,1", "south", 180)]
         {
@@ -101,9 +103,11 @@ fn lanes_are_drawn_and_said() {
         }
     }
     let said = "an arrow is a lane";
-    assert!(deckplan(&["view", "--as-text"], sheet.as_bytes()).printed().contains(said));
-    let plain = deckplan(&["view", "--as-text"], b"horizon 3\nfloor\nA.a\n").printed();
-    assert!(!plain.contains(said) && !plain.contains("class=\"lane\""));
+    for command in ["view", "picture"] {
+        assert!(deckplan(&[command, "--as-text"], sheet.as_bytes()).printed().contains(said), "{command}");
+        let plain = deckplan(&[command, "--as-text"], b"horizon 3\nfloor\nA.a\n").printed();
+        assert!(!plain.contains(said) && !plain.contains("class=\"lane\""), "{command}");
+    }
 }
 
 #[test]
