@@ -8,7 +8,7 @@ use native.Mathlib.Nat.{not-suc-le-zero, suc-mul, mul-le-mul-right}
 use native.Mathlib.Omega.{arith}
 use native.Mathlib.Numerals.{add-one}
 use lib.ListN.{length, getD, take, drop}
-use lib.Seq.{getD-take, getD-drop, drop-drop}
+use lib.Seq.{getD-take, getD-drop}
 use lib.Dec.{eqb}
 use borrow.Author.Tests.{eq-eqb, ne-eqb}
 use Rattle.deck.specs.Lists.{pieces}
@@ -18,6 +18,7 @@ use Rattle.deck.specs.Calls.{collisionFound}
 use Rattle.deck.specs.declared.Collision.{Collision}
 use Rattle.deck.specs.declared.CollisionAnswer.{CollisionAnswer}
 use Rattle.deck.specs.declared.CollisionAnswer.the-variants.{NoCollision}
+use Rattle.meaning.proofs.Lists.{piece-at}
 use Rattle.collision_scan.specs.Words.{placeIn, Row, meets, exchanges, placeAnswer, moveAnswer}
 
 pub and-false : (x : Bool) → x && false ≡ false
@@ -55,14 +56,6 @@ module _ (ws : List ℕ) (n i j t : ℕ) where
       → eqb (placeIn ws n i t) (placeIn ws n j (t + 1)) ≡ exchanges ws n i j t
   unfolding exchanges
   entered h k = rw (eq-eqb _ _ h, ne-eqb _ _ k) (move (eqb (placeIn ws n i t) (placeIn ws n j (t + 1))))
-
--- piece i begins at word i × n
-pub piece-at : {A : Type 0} (m n : ℕ) (l : List A) (i : ℕ) → i < m → getD (pieces m n l) i [] ≡ take n (drop (i * n) l)
-piece-at zero n l i h = absurd (not-suc-le-zero h)
-piece-at (suc m) n l zero h = let e : 0 * n ≡ 0 = omega arith in rw e
-piece-at (suc m) n l (suc i) h =
-    let e : n + i * n ≡ suc i * n = omega (arith, suc-mul i n) in
-    piece-at m n (drop n l) i (omega arith) ∙ ap (take n) (drop-drop (i * n) n l ∙ ap (λ k. drop k l) e)
 
 module _ (m n : ℕ) (ws : List ℕ) where
   pub place-in : (i t : ℕ) → i < m → t < n → placeAt (pieces m n ws) i t ≡ placeIn ws n i t

@@ -1,5 +1,6 @@
 pub mod Causes
 pub mod Lists
+pub mod Ranks
 pub mod Sheet
 pub mod Paths
 pub mod Collisions
@@ -14,3 +15,4 @@ pub mod Rounds
 pub mod Starred
 pub mod Further
 pub mod Lanes
+pub mod Orders

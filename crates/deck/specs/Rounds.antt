@@ -3,8 +3,9 @@
 use Prim.Native.Nat.{ℕ, suc, _+_, _*_, _/_, _%_}
 use mathlib.Core.Path.{_≡_}
 use mathlib.Core.List.{List, [], _∷_, _++_, map}
-use lib.ListN.{length, replicate}
+use lib.ListN.{length, take, replicate}
 use Rattle.deck.specs.Lists.{below, each, flat}
+use Rattle.deck.specs.Ranks.{sortBy}
 use Rattle.deck.specs.Sheet.{read, carrier, task, endOfPairs, cause}
 use Rattle.deck.specs.Calls.{taskList, noTasks, workspaceFor, planWords, goalsCall, pathCause, pathAnswerFor, pathOutputFor, assignmentCause, leastFor, assignmentKind, assignmentTasks, collisionCall, searchAnswer, searchOutput, checkCall}
 use Rattle.deck.specs.Numbers.{pathNumbers, assignmentNumbers, collisionNumbers, searchNumbers, checkNumbers}
@@ -27,6 +28,8 @@ pub data Question : Type 0 where
   askCheck : (sheet tasks paths : List ℕ) → Question
   -- the listing
   askListing : (sheet : List ℕ) → Question
+  -- lists in the order of their first n numbers
+  askSorted : (n : ℕ) (lists : List (List ℕ)) → Question
 
 -- the answer in numbers, then the words of output, which held 9 before
 unfoldable pub answered : Question → List ℕ
@@ -44,6 +47,7 @@ answered (askCollision m h ws) = collisionNumbers (collisionCall m h ws)
 answered (askSearch s work words) = searchNumbers (searchAnswer s work words) ++ searchOutput s work (replicate words 9)
 answered (askCheck s tasks ws) = checkNumbers (checkCall s tasks ws)
 answered (askListing s) = listing s
+answered (askSorted n lists) = flat (sortBy (take n) lists)
 
 pub record Round : Type 0 where
   pub question : Question

@@ -14,7 +14,7 @@ use Rattle.deck.specs.Lists.{pathOf, countFrom, below, each, pieces}
 use Rattle.deck.specs.Sheet.{Sheet, task}
 use Rattle.deck.specs.Paths.{finishOf}
 use Rattle.deck.specs.Listing.{decimal, text, spaced, carrierLine, carrierLines}
-use Rattle.collision_scan.proofs.Words.{piece-at}
+use Rattle.meaning.proofs.Lists.{piece-at}
 use Rattle.listing.specs.Wrote.{Wrote}
 use Rattle.listing.proofs.Buffers.{wrote-then}
 

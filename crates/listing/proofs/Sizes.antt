@@ -19,7 +19,7 @@ use Rattle.deck.specs.declared.SearchAnswer.{SearchAnswer}
 use Rattle.meaning.proofs.Finish.{finish-most}
 use Rattle.meaning.proofs.Accepted.{accepted-horizon}
 use Rattle.sheet.proofs.Accepted.{count-range}
-use Rattle.collision_scan.proofs.Words.{piece-at}
+use Rattle.meaning.proofs.Lists.{piece-at}
 use Rattle.listing.specs.Listed.{Listable}
 use Rattle.listing.proofs.Decimals.{one-digit, more-digits}
 

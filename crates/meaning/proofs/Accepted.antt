@@ -1,18 +1,20 @@
 -- What an accepted sheet gives: a node limit of at least 1, a horizon of at most 255, each stretch of the directory inside the sheet,
--- and each carrier's start on the grid. Assumes nothing.
+-- each carrier's start on the grid, and last goals that differ; and what an accepted search was lent. Assumes nothing.
 use Prim.Native.Nat.{ℕ, zero, suc, _+_, _*_, _≤_, _<_}
-use mathlib.Core.Path.{_≡_, refl, ap}
+use mathlib.Core.Path.{_≡_, refl, sym, ap, _∙_}
 use mathlib.Core.Logic.{_⊎_, inl, inr}
 use mathlib.Core.Bool.{Bool, true, false, _&&_, not}
-use mathlib.Core.List.{List, [], _∷_}
+use mathlib.Core.List.{List, [], _∷_, map}
 use native.Mathlib.Nat.{eq-or-lt-of-le}
 use native.Mathlib.Omega.{arith}
-use lib.Dec.{T, leb, ltb, eqb, ltb→lt, eqb→eq}
-use lib.ListN.{length, getD, length-take, length-drop}
-use Rattle.deck.specs.Lists.{below, within, all, distinct}
-use Rattle.deck.specs.Sheet.{Stretch, area, gridByte, carrier, task, startOf, byteAt, widthOf, heightOf, countOf, horizonOf, limitOf, part, pairAt, pairsFor, startsPair, directoryEnd, gridStretch, startsStretch, taskStretch, words, read, free, chained, goalsSize, unless, _orElse_, goodHeader, goodDirectory, goodGrid, goodStarts, goodGoals, goodLastGoals, cause}
+use lib.Dec.{T, leb, ltb, eqb, leb→le, ltb→lt, eqb→eq}
+use lib.ListN.{length, getD, length-take, length-drop, length-map, List·getD-map}
+use Rattle.deck.specs.Lists.{below, within, all, distinct, last}
+use Rattle.deck.specs.Sheet.{Stretch, area, gridByte, carrier, task, startOf, lastGoal, byteAt, widthOf, heightOf, countOf, horizonOf, limitOf, part, pairAt, pairsFor, startsPair, directoryEnd, gridStretch, startsStretch, taskStretch, words, read, free, chained, goalsSize, unless, _orElse_, goodHeader, goodDirectory, goodGrid, goodStarts, goodGoals, goodLastGoals, cause}
+use Rattle.deck.specs.Calls.{workspaceFor, workspaceCause, planWords, searchCause}
 use Rattle.meaning.proofs.Tests.{Says, says-eqb, says-leb, says-and}
-use Rattle.meaning.proofs.ListTests.{says-all-at}
+use Rattle.meaning.proofs.Lists.{length-below}
+use Rattle.meaning.proofs.ListTests.{says-all-at, says-distinct}
 
 both : (a b : Bool) → T (a && b) → T a × T b
 both true b t = (tt, t)
@@ -146,3 +148,23 @@ module _ (s : List ℕ) (ok : cause s ≡ 0) where
       let free-all = both (all (free (read s)) (read s .starts)) (distinct (read s .starts)) (accepted s ok .starts) .0 in
       let t = says-all-at (free (read s)) (λ v. T (free (read s) v)) (λ v. says-itself) 0 (read s .starts) .fact free-all i (omega (arith, accepted-starts)) in
       ltb→lt v (area (read s)) (both (ltb v (area (read s))) (not (eqb (gridByte (read s) v) 1)) t .0)
+
+  -- no two tasks have one last goal
+  pub last-goals-differ : (i j : ℕ) → i < read s .count → j < read s .count → lastGoal (read s) (task i) ≡ lastGoal (read s) (task j) → i ≡ j
+  unfolding goodLastGoals
+  last-goals-differ i j a b e =
+      let l = map (last 0) (read s .tasks) in
+      let long : length l ≡ read s .count = length-map (read s .tasks) (last 0) ∙ length-below (read s .count) (λ k. words (part s (taskStretch s (task k)))) in
+      says-distinct l .fact (accepted s ok .last-goals) i j (omega arith) (omega arith)
+      (List·getD-map (last 0) (read s .tasks) i [] ∙ e ∙ sym (List·getD-map (last 0) (read s .tasks) j []))
+
+-- what the search asks for beyond an accepted sheet
+pub search-accepted : (s : List ℕ) (work out : ℕ) → searchCause s work out ≡ 0 → (cause s ≡ 0) × (workspaceFor (read s) ≤ work) × (planWords (read s) ≤ out)
+unfolding searchCause
+search-accepted s work out e =
+    let c1 = first-none (cause s) e in
+    let c2 = first-none (workspaceCause (read s) work) (c1 .1) in (
+      c1 .0,
+      leb→le (workspaceFor (read s)) work (passes-last (leb (workspaceFor (read s)) work) 9 (c2 .0)),
+      leb→le (planWords (read s)) out (passes-last (leb (planWords (read s)) out) 10 (c2 .1)),
+    )

@@ -1,10 +1,11 @@
 -- The assignments in order are exactly the assignments that use no barred entry, strictly rising by sum and then by list of task
--- numbers; the least is the first of them; the table has the finish of each least path. Assumes nothing.
-use Prim.Native.Nat.{ℕ, zero, suc, _+_, _<_, zero-le, suc-le-suc}
+-- numbers; the least is the first of them; each task of an assignment has a carrier; the table has the finish of each least path. Assumes
+-- nothing.
+use Prim.Native.Nat.{ℕ, zero, suc, _+_, _≤_, _<_, zero-le, suc-le-suc}
 use mathlib.Core.Path.{_≡_, refl, sym, ap, subst, _∙_}
 use mathlib.Core.Logic.{_↔_, _≢_, _⊎_, inl, inr, ⊎-elim}
-use mathlib.Core.Bool.{not}
-use mathlib.Core.List.{List, [], _∷_, map, List·Memᴰ as Mem, List·Memᴰ·head as here, List·Memᴰ·not-nil as not-nil, List·Memᴰ·eq-of-singleton as only}
+use mathlib.Core.Bool.{Bool, true, false, cond, not}
+use mathlib.Core.List.{List, [], _∷_, map, List·Memᴰ as Mem, List·Memᴰ·head as here, List·Memᴰ·tail as there, List·Memᴰ·not-nil as not-nil, List·Memᴰ·cases-cons as cases-cons, List·Memᴰ·eq-of-singleton as only}
 use mathlib.Core.Option.{Option, none, some}
 use native.Mathlib.Nat.{not-suc-le-zero, le-of-suc-le-suc, suc-inj, eq-or-lt-of-le, le-refl}
 use native.Mathlib.Decide.{ℕ-discrete}
@@ -12,6 +13,7 @@ use native.Mathlib.Omega.{arith}
 use lib.ListN.{length, getD, length-map}
 use lib.Seq.{ext-getD}
 use lib.Dec.{eqb}
+use borrow.Author.Tests.{eqb-false}
 use Rattle.deck.specs.Lists.{below, all, select, each, sum}
 use Rattle.deck.specs.Sheet.{Sheet, carrier, task}
 use Rattle.deck.specs.Paths.{leastPath}
@@ -20,7 +22,7 @@ use Rattle.meaning.specs.Meaning.{_at_, Assignment, Unbarred, StrictlyBe
 use Rattle.meaning.proofs.Tests.{Says, says-eqb, says-not, says-iff}
 use Rattle.meaning.specs.Sorted.{Sorted}
 use Rattle.meaning.proofs.Lists.{mem-map, map-mem, mem-each, each-mem, mem-select, select-mem, mem-below, getD-countFrom, length-countFrom, getD-tabulate, sorted-select, sorted-map, sorted-countFrom, sorted-each, each-at, Head, head-first}
-use Rattle.meaning.proofs.ListTests.{says-all-at}
+use Rattle.meaning.proofs.ListTests.{at-mem, says-all-at}
 use Rattle.meaning.proofs.InOrder.{sorted-once, in-order-mem, in-order-sorted}
 
 -- the numbers of l without x
@@ -89,6 +91,49 @@ assignment-mem m a = (
       record { as-many = h .as-many; tasks = λ i k. mem-below m .0 (h .members i k); once = h .once },
   λ h. arrangements-mem m (below m) a (record { as-many = h .as-many; members = λ i k. mem-below m .1 (h .tasks i k); once = h .once }),
 )
+
+-- EACH TASK HAS A CARRIER: without one of them there are fewer numbers
+without-most : (x : ℕ) (l : List ℕ) → length (without x l) ≤ length l
+without-most x [] = zero-le
+without-most x (y ∷ l) = go (eqb x y) (without-most x l)
+  where
+    go : (b : Bool) → length (without x l) ≤ length l → length (cond (not b) (y ∷ without x l) (without x l)) ≤ suc (length l)
+    go true h = omega arith
+    go false h = omega arith
+
+without-fewer : (x : ℕ) (l : List ℕ) → Mem x l → length (without x l) < length l
+without-fewer x [] m = absurd (not-nil m)
+without-fewer x (y ∷ l) m = go (eqb x y) refl (cases-cons m) (without-fewer x l)
+  where
+    go : (b : Bool) → eqb x y ≡ b → (x ≡ y) ⊎ Mem x l → (Mem x l → length (without x l) < length l)
+        → length (cond (not b) (y ∷ without x l) (without x l)) < suc (length l)
+    go true e o again = omega (arith, without-most x l)
+    go false e (inl q) again = absurd (eqb-false x y e q)
+    go false e (inr n) again = omega (arith, again n)
+
+-- n different numbers, of at most n, are all of them
+arranged-all : (n : ℕ) (l a : List ℕ) → Mem a (arrangements n l) → length l ≤ n → (y : ℕ) → Mem y l → Mem y a
+unfolding arrangements
+arranged-all zero [] a m h y k = absurd (not-nil k)
+arranged-all zero (x ∷ l) a m h y k = absurd (omega arith)
+arranged-all (suc n) l a m h y k =
+    let e = mem-each (λ x. map (λ r. x ∷ r) (arrangements n (without x l))) l m in
+    let x = e .0 in
+    let f = mem-map (λ (r : List ℕ). x ∷ r) (arrangements n (without x l)) (e .2) in
+    let later : y ≢ x → Mem y (f .0) =
+    λ d. arranged-all n (without x l) (f .0) (f .1) (omega (arith, without-fewer x l (e .1))) y (select-mem _ k (not-same x y .test (λ q. d (sym q)))) in
+    rw (f .2) (go x (f .0) (ℕ-discrete y x) later)
+  where
+    go : (x : ℕ) (r : List ℕ) → Dec (y ≡ x) → (y ≢ x → Mem y r) → Mem y (x ∷ r)
+    go x r (yes q) later = here q
+    go x r (no d) later = there (later d)
+
+pub each-assigned : (m : ℕ) (a : List ℕ) → Assignment m a → (j : ℕ) → j < m → (i : ℕ) × (i < m) × (a at i ≡ j)
+unfolding assignments
+each-assigned m a h j l =
+    let all = arranged-all m (below m) a (assignment-mem m a .1 h) (omega (arith, length-countFrom 0 m)) j (mem-below m .1 l) in
+    let r = at-mem 0 all in
+    (r .0, omega (arith, r .1, h .as-many), r .2)
 
 entries-from-length : (m : ℕ) (table : List ℕ) (k : ℕ) (a : List ℕ) → length (entriesFrom m table k a) ≡ length a
 unfolding entriesFrom

@@ -3,6 +3,7 @@ pub mod Lists
 pub mod ListTests
 pub mod Accepted
 pub mod Before
+pub mod Ranks
 pub mod Walks
 pub mod Finish
 pub mod Visits

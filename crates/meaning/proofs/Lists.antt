@@ -7,11 +7,11 @@ use mathlib.Core.List.{List, [], _∷_, _++_, map, List·Memᴰ as Mem, List·Me
 use mathlib.Core.Option.{Option, none, some}
 use native.Mathlib.Nat.{not-suc-le-zero, eq-or-lt-of-le, le-trans, le-refl, le-of-lt, le-of-suc-le-suc, suc-mul}
 use native.Mathlib.Omega.{arith}
-use lib.ListN.{length, length-map, getD, List·getD-append}
-use lib.Seq.{getD-append-add}
+use lib.ListN.{length, length-map, getD, take, drop, List·getD-append}
+use lib.Seq.{getD-append-add, drop-drop}
 use lib.Dec.{T, leb}
 use borrow.Author.Tests.{leb-true, leb-false}
-use Rattle.deck.specs.Lists.{countFrom, below, sum, select, each, takeLeast, pickLeast, headOf}
+use Rattle.deck.specs.Lists.{countFrom, below, sum, select, each, pieces, takeLeast, pickLeast, headOf}
 use Rattle.meaning.specs.Sorted.{Sorted}
 
 module _ {A B : Type 0} where
@@ -116,6 +116,14 @@ each-at f w s (x ∷ l) c d zero j h k =
 each-at f w s (x ∷ l) c d (suc i) j h k =
     let e : suc i * w + j ≡ length (f x) + (i * w + j) = omega (arith, s x, suc-mul i w) in
     rw (e, getD-append-add (f x) (each f l) (i * w + j) d) (each-at f w s l c d i j (le-of-suc-le-suc h) k)
+
+-- piece i begins at word i × n
+pub piece-at : {A : Type 0} (m n : ℕ) (l : List A) (i : ℕ) → i < m → getD (pieces m n l) i [] ≡ take n (drop (i * n) l)
+piece-at zero n l i h = absurd (not-suc-le-zero h)
+piece-at (suc m) n l zero h = let e : 0 * n ≡ 0 = omega arith in rw e
+piece-at (suc m) n l (suc i) h =
+    let e : n + i * n ≡ suc i * n = omega (arith, suc-mul i n) in
+    piece-at m n (drop n l) i (omega arith) ∙ ap (take n) (drop-drop (i * n) n l ∙ ap (λ k. drop k l) e)
 
 module _ {A : Type 0} (R : A → A → Type 0) where
   pub sorted-append : (l r : List A) → Sorted R l → Sorted R r → ((x y : A) → Mem x l → Mem y r → R x y) → Sorted R (l ++ r)

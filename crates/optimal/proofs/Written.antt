@@ -6,11 +6,12 @@ use native.Mathlib.Omega.{arith}
 use lib.ListN.{length, getD, take, drop}
 use lib.Seq.{take-at, drop-at}
 use Rattle.deck.specs.Lists.{flat, pieces}
-use Rattle.deck.specs.Sheet.{Sheet, read, cause, _orElse_}
+use Rattle.deck.specs.Sheet.{Sheet, read}
 use Rattle.deck.specs.Search.{Answer, plan, noPlan, spent}
 use Rattle.deck.specs.Planner.{planFor}
-use Rattle.deck.specs.Calls.{taskList, workspaceCause, outputCause, planWords, searchCause, searchFound, searchWritten, searchAnswerFor, searchOutputFor, searchAnswer, searchOutput}
+use Rattle.deck.specs.Calls.{taskList, searchCause, searchFound, searchWritten, searchAnswerFor, searchOutputFor, searchAnswer, searchOutput}
 use Rattle.meaning.specs.Meaning.{Plan, Right}
+use Rattle.meaning.proofs.Accepted.{search-accepted}
 use Rattle.optimal.specs.Demand.{RightCall}
 use Rattle.optimal.proofs.Demand3.{demand3}
 
@@ -43,19 +44,11 @@ right-found d out (plan a ps f n b) ((fs, p, e), same, least) = (
 right-found d out (noPlan n) h = h
 right-found d out (spent n b) h = h
 
-first-cause : (c d : ℕ) → (c orElse d) ≡ 0 → c ≡ 0
-first-cause zero d e = refl
-first-cause (suc c) d e = absurd (omega arith)
-
-accepted-sheet : (s : List ℕ) (work out : ℕ) → searchCause s work out ≡ 0 → cause s ≡ 0
-unfolding searchCause
-accepted-sheet s work out e = first-cause (cause s) (workspaceCause (read s) work orElse outputCause (planWords (read s)) out) e
-
 -- Demand 3, of every input
 pub call-right : (s : List ℕ) (work : ℕ) (out : List ℕ) → RightCall (read s) (searchAnswer s work (length out)) (searchOutput s work out)
 unfolding searchAnswer searchOutput searchAnswerFor searchOutputFor
 call-right s work out = go (searchCause s work (length out)) refl
   where
     go : (c : ℕ) → searchCause s work (length out) ≡ c → RightCall (read s) (searchAnswerFor c (read s)) (searchOutputFor c (read s) out)
-    go zero e = right-found (read s) out (planFor (read s)) (demand3 s (accepted-sheet s work (length out) e))
+    go zero e = right-found (read s) out (planFor (read s)) (demand3 s (search-accepted s work (length out) e .0))
     go (suc c) e = tt

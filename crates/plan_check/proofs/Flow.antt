@@ -24,7 +24,7 @@ use Rattle.deck.specs.declared.CheckAnswer.{CheckAnswer}
 use Rattle.deck.specs.declared.CheckAnswer.the-variants.{Yes, No}
 use Rattle.meaning.proofs.Paths.{is-path-meant}
 use Rattle.meaning.proofs.Flowtime.{finishAt, finishes, flowtime-sum}
-use Rattle.collision_scan.proofs.Words.{piece-at}
+use Rattle.meaning.proofs.Lists.{piece-at}
 use Rattle.path_check.specs.Answers.{pathAnswer}
 use Rattle.path_check.proofs.Parts.{rest-next, rest-none}
 use Rattle.plan_check.specs.Answers.{flowAnswer}

@@ -1,12 +1,13 @@
 -- From what the calls ensure of their answers to what the exported calls leave in the words lent. Assumes nothing.
 use Prim.Native.Nat.{ℕ, zero, suc, _≤_, _<_}
-use mathlib.Core.Path.{_≡_, refl, sym, subst, _∙_}
+use mathlib.Core.Path.{_≡_, refl, sym, ap, subst, _∙_}
 use mathlib.Core.Logic.{_≢_}
 use mathlib.Core.List.{List, [], _∷_}
+use lib.ListN.{length}
 use lib.IntN.{ℤ}
 use borrow.Author.Tests.{lt-ltb, le-ltb}
 use Rattle.deck.specs.Sheet.{Stretch, read, cause, task, countOf, pairAt, taskPair, _orElse_}
-use Rattle.deck.specs.Calls.{workspaceFor, goalsCause, goalsCall, stretchFor, PathCall, AssignmentCall, SearchCall}
+use Rattle.deck.specs.Calls.{workspaceFor, goalsCause, goalsCall, stretchFor, PathCall, AssignmentCall, searchAnswer, SearchCall}
 use Rattle.deck.specs.Numbers.{pathNumbers, assignmentNumbers, searchNumbers}
 use Rattle.deck.proofs.Told.{path-answered, assignment-answered, search-answered}
 use Rattle.deck.specs.declared.Carrier.{Carrier}
@@ -19,10 +20,15 @@ use Rattle.optimal.specs.Demand.{RightCall}
 use Rattle.path.specs.Meant.{Meant as PathMeant}
 use Rattle.assignment.specs.Meant.{Meant as AssignmentMeant}
 use Rattle.numbers.specs.Small.{SmallPath, SmallAssignment, SmallSearch}
-use Rattle.planner.specs.Exports.{workspaceWanted, stretchNumbers, PathExport, AssignmentExport, InOrderExport, SearchExport}
+use Rattle.planner.specs.Exports.{workspaceWanted, stretchNumbers, PathExport, AssignmentExport, InOrderExport, SearchExport, BoardExport}
 use Rattle.in_order.specs.Listed.{InOrderCall}
 use Rattle.in_order.specs.declared.Count.{Count}
-use Rattle.planner.proofs.Sizes.{path-small, assignment-small, search-small}
+use Rattle.board_lines.specs.Board.{boardNumbers}
+use Rattle.board_lines.specs.Small.{SmallLines}
+use Rattle.board_lines.specs.declared.Line.{Line}
+use Rattle.board.specs.Call.{boardLines, BoardCall, BoardRight}
+use Rattle.board.proofs.Called.{call-written}
+use Rattle.planner.proofs.Sizes.{path-small, assignment-small, search-small, board-small}
 
 -- THE SHEET
 pub wanted : {n : ℕ} (s : List ℕ) → cause s ≡ 0 → n ≡ workspaceFor (read s) → n ≡ workspaceWanted (cause s) (read s)
@@ -99,3 +105,18 @@ module _ {s work out : List ℕ} (r : SearchAnswer) {work′ out′ : List ℕ} 
     call = subst (λ l. SearchCall s work out l work′ out′) (sym e) p;
     right = subst (λ a. RightCall (read s) a out′) (search-answered r p) q;
   }
+
+-- THE GATE BOARD
+module _ {s work out : List ℕ} (r : SearchAnswer) (ls : List Line) {work′ out′ : List ℕ} (p : BoardCall s work out (searchNumbers r) ls work′ out′) where
+  pub lines-small : BoardRight (read s) r out′ ls → SmallLines ls
+  lines-small q = board-small s (r .tasks) out′ ls (length out) (r .kind) (call-written r (p .searched)) q
+
+  pub board-exported : {numbers lines : List ℕ} → RightCall (read s) r out′ → BoardRight (read s) r out′ ls → numbers ≡ searchNumbers r → lines ≡ boardNumbers ls
+      → BoardExport s work out numbers lines work′ out′
+  board-exported q h e f =
+      let a = search-answered r (p .searched) in
+      record {
+        searched = search-exported r (p .searched) q e;
+        lined = f ∙ ap boardNumbers (p .lined);
+        stands = subst (λ x. BoardRight (read s) x out′ (boardLines (read s) (searchAnswer s (length work) (length out)) out′)) a (subst (BoardRight (read s) r out′) (p .lined) h);
+      }

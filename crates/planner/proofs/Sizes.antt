@@ -5,6 +5,7 @@ use mathlib.Core.Logic.{_≢_, ⊎-elim}
 use mathlib.Core.Bool.{Bool, true, false}
 use mathlib.Core.List.{List, [], _∷_, map}
 use mathlib.Core.Option.{Option, none, some}
+use native.Mathlib.Decide.{decLe}
 use native.Mathlib.Nat.{mul-le-mul-right, suc-mul}
 use native.Mathlib.Omega.{arith}
 use lib.ListN.{length, getD}
@@ -23,12 +24,14 @@ use Rattle.deck.specs.declared.Task.{Task}
 use Rattle.deck.specs.declared.Collision.the-variants.{Place, Move}
 use Rattle.deck.specs.declared.CollisionAnswer.{CollisionAnswer}
 use Rattle.deck.specs.declared.CollisionAnswer.the-variants.{Found, NoCollision, Refused}
+use Rattle.deck.specs.declared.SearchKind.{SearchKind}
+use Rattle.deck.specs.declared.SearchKind.the-variants.{Plan, NoPlan, Spent, Refused as SearchRefused}
 use Rattle.deck.specs.declared.CheckAnswer.{CheckAnswer}
 use Rattle.deck.specs.declared.CheckAnswer.the-variants.{Yes, No, Refused as CheckRefused}
 use Rattle.meaning.specs.Meaning.{_at_}
 use Rattle.meaning.proofs.Lists.{length-below, getD-below}
 use Rattle.meaning.proofs.LeastPath.{LeastMeant, least-path-meant}
-use Rattle.meaning.proofs.Accepted.{accepted, header-says, accepted-limit, accepted-horizon, accepted-start}
+use Rattle.meaning.proofs.Accepted.{accepted, header-says, search-accepted, accepted-limit, accepted-horizon, accepted-start}
 use Rattle.meaning.proofs.Assignments.{Least, least-assignment, entries-length, entries-at}
 use Rattle.optimal.specs.Plans.{Laws}
 use Rattle.optimal.specs.Nodes.{IsNode}
@@ -43,8 +46,13 @@ use Rattle.collision_scan.proofs.Words.{place-in}
 use Rattle.plan_check.specs.Meant.{PlanFor, Meant as CheckMeant}
 use Rattle.path.proofs.Calling.{NoCause, no-cause}
 use Rattle.assignment.proofs.Calls.{count-high}
-use Rattle.search.proofs.Calling.{no-cause as search-no-cause}
+use Rattle.sheet.proofs.Accepted.{area-range, last-goal-on-grid}
 use Rattle.numbers.specs.Small.{word, SmallPath, SmallAssignment, SmallFound, SmallSearch, SmallCheck}
+use Rattle.board_lines.specs.Board.{noLine}
+use Rattle.board_lines.specs.Stands.{lineAt, BoardStands}
+use Rattle.board_lines.specs.Small.{SmallLine, SmallLines}
+use Rattle.board_lines.specs.declared.Line.{Line}
+use Rattle.board.specs.Call.{Written}
 
 -- a sum of numbers of at most b
 sum-most : (b : ℕ) (l : List ℕ) → ((i : ℕ) → i < length l → l at i ≤ b) → sum l ≤ length l * b
@@ -266,5 +274,29 @@ unfolding searchAnswer searchAnswerFor
 search-small s work out = go (searchCause s work out) refl
   where
     go : (c : ℕ) → searchCause s work out ≡ c → SmallSearch (searchAnswerFor c (read s))
-    go zero e = found-small (planFor (read s)) (plan-small s (search-no-cause s work out e .0))
+    go zero e = found-small (planFor (read s)) (plan-small s (search-accepted s work out e .0))
     go (suc c) e = (omega arith, omega arith, omega arith)
+
+-- THE GATE BOARD: a place of the grid, numbers below m, and a finish of at most the horizon
+no-line-small : SmallLine noLine
+no-line-small = (omega arith, omega arith, omega arith, omega arith)
+
+pub board-small : (s tasks words : List ℕ) (ls : List Line) (out : ℕ) (k : SearchKind) → Written s out k → BoardStands (read s) k tasks words ls → SmallLines ls
+board-small s tasks words ls out Plan w h k = go (decLe (read s .count) k)
+  where
+    few : read s .count ≤ 12
+    few = header-says s .fact (accepted s (w .0) .header) .0 .0 .0 .0 .1 .1
+
+    go : Dec (read s .count ≤ k) → SmallLine (lineAt ls k)
+    go (yes b) = rw (h .rest k b) no-line-small
+    go (no b) =
+        let l : k < read s .count = omega arith in
+        let c = h .carriers k l in (
+          omega (arith, h .goals k l, last-goal-on-grid s (w .0) (lineAt ls k .task), area-range s (w .0)),
+          omega (arith, c .0, few),
+          omega (arith, c .1, few),
+          omega (arith, h .finishes k l .finishes .rests .0, accepted-horizon s (w .0)),
+        )
+board-small s tasks words ls out NoPlan w h k = rw (h k) no-line-small
+board-small s tasks words ls out Spent w h k = rw (h k) no-line-small
+board-small s tasks words ls out (SearchRefused c) w h k = rw (h k) no-line-small

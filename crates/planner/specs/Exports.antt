@@ -14,6 +14,8 @@ use Rattle.in_order.specs.Listed.{listsOf, roomFor, listedFor}
 use Rattle.deck.specs.declared.Carrier.{Carrier}
 use Rattle.deck.specs.declared.Task.{Task}
 use Rattle.optimal.specs.Demand.{RightCall}
+use Rattle.board_lines.specs.Board.{boardNumbers}
+use Rattle.board.specs.Call.{boardLines, BoardRight}
 
 -- the words of workspace that an accepted sheet asks for, by its cause; 0 for any other
 unfoldable pub workspaceWanted : ℕ → Sheet → ℕ
@@ -44,3 +46,10 @@ pub record SearchExport (s work out numbers work′ out′ : List ℕ) : Type 0 
   pub call : SearchCall s work out numbers work′ out′
   -- demand 3: a plan is one and has least flowtime, without a plan there is none, and no plan is below the bound of a spent search
   pub right : RightCall (read s) (searchAnswer s (length work) (length out)) out′
+
+-- the gate board: numbers and lent words as those of the search, and the lines as numbers
+pub record BoardExport (s work out numbers lines work′ out′ : List ℕ) : Type 0 where
+  pub searched : SearchExport s work out numbers work′ out′
+  pub lined : lines ≡ boardNumbers (boardLines (read s) (searchAnswer s (length work) (length out)) out′)
+  -- what the lines say of a plan; without a plan they are zeros
+  pub stands : BoardRight (read s) (searchAnswer s (length work) (length out)) out′ (boardLines (read s) (searchAnswer s (length work) (length out)) out′)

@@ -14,8 +14,8 @@ use borrow.Author.Tests.{ltb-true, ltb-false}
 use Rattle.deck.specs.Lists.{below}
 use Rattle.meaning.specs.Meaning.{_at_, Assignment}
 use Rattle.meaning.proofs.Lists.{getD-tabulate, length-countFrom}
+use Rattle.meaning.proofs.Assignments.{each-assigned}
 use Rattle.prices.specs.Matching.{Tight, AtMost, Bounded, Put, Raised, LeastSlack, Matches, Reached, Tree, Turning}
-use Rattle.prices.proofs.Sums.{each-assigned}
 
 pub lower : (a b : ℕ) → (a < b) ⊎ (b ≤ a)
 lower a b = go (ltb a b) refl
@@ -83,7 +83,9 @@ module _ (m : ℕ) (c : ℕ → ℕ → ℕ) (r : ℕ) (u v task carrier : ℕ �
   free-column = ⊎-elim (λ h. h) (λ full. absurd (too-many full)) (look m)
     where
       too-many : ((k : ℕ) → k < m → carrier k < m) → ⊥
-      too-many full = each-assigned m (map carrier (below m)) all-rows r lr (λ k lk e. absurd (omega (arith, M .unmatched r (le-refl r) lr, M .task-of k lk (full k lk), ap task (sym (there-at k lk) ∙ e))))
+      too-many full =
+          let c = each-assigned m (map carrier (below m)) all-rows r lr in
+          omega (arith, M .unmatched r (le-refl r) lr, M .task-of (c .0) (c .1) (full (c .0) (c .1)), ap task (sym (there-at (c .0) (c .1)) ∙ c .2))
         where
           there-at : (k : ℕ) → k < m → map carrier (below m) at k ≡ carrier k
           there-at k lk = let z : 0 + k ≡ k = omega arith in getD-tabulate carrier 0 m k 0 lk ∙ ap carrier z

@@ -9,12 +9,12 @@ use native.Mathlib.Omega.{arith}
 use lib.ListN.{length, getD, length-map, List·getD-map}
 use lib.Seq.{ext-getD}
 use lib.Dec.{eqb}
-use borrow.Author.Tests.{eqb-true, eqb-false, ne-eqb, eq-eqb}
+use borrow.Author.Tests.{eqb-true, eqb-false, ne-eqb}
 use Rattle.deck.specs.Lists.{below, countFrom, select, sum}
 use Rattle.deck.specs.Assignments.{arrangements, assignments}
 use Rattle.meaning.specs.Meaning.{_at_, Assignment}
 use Rattle.meaning.specs.Sorted.{Sorted}
-use Rattle.meaning.proofs.Lists.{mem-map, mem-each, mem-below, getD-tabulate, length-countFrom, sorted-select, sorted-countFrom}
+use Rattle.meaning.proofs.Lists.{mem-map, mem-each, getD-tabulate, length-countFrom, sorted-select, sorted-countFrom}
 use Rattle.meaning.proofs.Assignments.{assignment-mem}
 
 module _ (f g : ℕ → ℕ) where
@@ -100,19 +100,3 @@ unfolding assignments
 assigned-sum v m a h =
     ap sum (map-at v a m (h .as-many))
     ∙ arranged-sum v m (below m) a (sorted-countFrom 0 m) (length-countFrom 0 m) (assignment-mem m a .1 h)
-
--- so each task has a carrier
-pub each-assigned : (m : ℕ) (a : List ℕ) → Assignment m a → (r : ℕ) → r < m → ((i : ℕ) → i < m → a at i ≢ r) → ⊥
-each-assigned m a h r lr none =
-    let nothing = nothing-sum (λ i. is (a at i)) (below m) (λ i n. is-not (a at i) (none i (mem-below m .0 n))) in
-    let zero-at = sum-nothing is (below m) (sym (assigned-sum is m a h) ∙ nothing) r (mem-below m .1 lr) in
-    omega (arith, is-self, zero-at)
-  where
-    is : ℕ → ℕ
-    is x = cond (eqb x r) 1 0
-
-    is-self : is r ≡ 1
-    is-self = rw (eq-eqb r r refl)
-
-    is-not : (x : ℕ) → x ≢ r → is x ≡ 0
-    is-not x n = rw (ne-eqb x r n)

@@ -18,7 +18,7 @@ use Rattle.deck.specs.declared.SearchAnswer.{SearchAnswer}
 use Rattle.meaning.specs.Meaning.{Right}
 use Rattle.optimal.proofs.Demand3.{demand3}
 use Rattle.optimal.proofs.Written.{plan-pieces}
-use Rattle.search.proofs.Calling.{no-cause}
+use Rattle.meaning.proofs.Accepted.{search-accepted}
 use Rattle.listing.specs.Listed.{Listable}
 
 accepted-listable : (s : List ℕ) → cause s ≡ 0 → (k : SearchKind) → Listable s k
@@ -43,7 +43,7 @@ module _ (s out other : List ℕ) where
       ≡ listingFor (read s) (searchAnswerFor c (read s) .kind) (searchAnswerFor c (read s)) (searchOutputFor c (read s) other))
   unfolding searchAnswerFor searchOutputFor listingFor
   same-for zero e =
-      let ok : cause s ≡ 0 = no-cause s 16384 3072 e .0 in
+      let ok : cause s ≡ 0 = search-accepted s 16384 3072 e .0 in
       (accepted-listable s ok (searchFound (planFor (read s)) .kind), found-same (read s) out other (planFor (read s)) (demand3 s ok))
   same-for (suc c) e = (tt, refl)
 

@@ -3,18 +3,16 @@ use Prim.Native.Nat.{ℕ, zero, suc, _<_, _≤_}
 use mathlib.Core.Path.{_≡_, refl, ap}
 use mathlib.Core.Logic.{_≢_}
 use mathlib.Core.List.{List}
-use lib.Dec.{leb, leb→le}
 use lib.ListN.{length}
 use borrow.Author.Tests.{le-leb, lt-leb}
 use Rattle.deck.specs.Causes.{shortWorkspace, wrongLength}
 use Rattle.deck.specs.Sheet.{read, cause}
 use Rattle.deck.specs.Planner.{planFor}
-use Rattle.deck.specs.Calls.{noTasks, workspaceFor, workspaceCause, planWords, searchCause, searchFound, searchWritten, searchAnswerFor, searchOutputFor, searchAnswer, searchOutput, SearchCall}
+use Rattle.deck.specs.Calls.{noTasks, workspaceFor, planWords, searchCause, searchFound, searchWritten, searchAnswerFor, searchOutputFor, searchAnswer, searchOutput, SearchCall}
 use Rattle.deck.specs.Numbers.{searchNumbers}
 use Rattle.deck.proofs.Told.{search-answered}
 use Rattle.deck.specs.declared.SearchAnswer.{SearchAnswer}
 use Rattle.deck.specs.declared.SearchKind.the-variants.{Refused}
-use Rattle.meaning.proofs.Accepted.{first-none, passes-last}
 use Rattle.optimal.specs.Demand.{RightCall}
 use Rattle.optimal.proofs.Written.{call-right}
 
@@ -38,17 +36,6 @@ module _ (s : List ℕ) (work out : ℕ) where
       pub cause-none : planWords (read s) ≤ out → 0 ≡ searchCause s work out
       unfolding searchCause
       cause-none h = rw (ok, le-leb (workspaceFor (read s)) work e, le-leb (planWords (read s)) out h) refl
-
-  -- what no cause says
-  pub no-cause : searchCause s work out ≡ 0 → (cause s ≡ 0) × (workspaceFor (read s) ≤ work) × (planWords (read s) ≤ out)
-  unfolding searchCause
-  no-cause e =
-      let c1 = first-none (cause s) e in
-      let c2 = first-none (workspaceCause (read s) work) (c1 .1) in (
-        c1 .0,
-        leb→le (workspaceFor (read s)) work (passes-last (leb (workspaceFor (read s)) work) 9 (c2 .0)),
-        leb→le (planWords (read s)) out (passes-last (leb (planWords (read s)) out) 10 (c2 .1)),
-      )
 
 -- THE CALL
 module _ (s work out : List ℕ) where

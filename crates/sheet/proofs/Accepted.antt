@@ -9,8 +9,8 @@ use native.Mathlib.Nat.{mul-le-mul, one-le-mul}
 use native.Mathlib.Omega.{arith}
 use lib.Dec.{T, leb, leb→le}
 use lib.ListN.{length, getD, length-take, length-drop, List·getD-eq-default}
-use Rattle.deck.specs.Lists.{below, all, distinct, last}
-use Rattle.deck.specs.Sheet.{Sheet, Stretch, area, gridByte, carrier, task, startOf, goalsOf, lastGoal, mostGoals, countOf, part, gridPair, taskPair, gridStretch, taskStretch, read, free, goalsSize, goodGrid, goodStarts, goodGoals, goodLastGoals, cause}
+use Rattle.deck.specs.Lists.{below, all, distinct}
+use Rattle.deck.specs.Sheet.{Sheet, Stretch, area, gridByte, carrier, task, startOf, goalsOf, lastGoal, mostGoals, countOf, part, gridPair, taskPair, gridStretch, taskStretch, read, free, goalsSize, goodGrid, goodStarts, goodGoals, cause}
 use Rattle.deck.specs.Calls.{workspaceFor}
 use Rattle.deck.specs.declared.Carrier.{Carrier}
 use Rattle.deck.specs.declared.Task.{Task}
@@ -18,7 +18,7 @@ use Rattle.meaning.proofs.Tests.{Says, says-eqb, says-leb, says-and, says-not}
 use Rattle.meaning.proofs.ListTests.{says-all-at, says-distinct}
 use Rattle.meaning.proofs.Accepted.{Inside, accepted, accepted-horizon, accepted-inside, accepted-starts, header-says, directory-says}
 use Rattle.sheet_parts.proofs.Words.{length-words}
-use Rattle.sheet_parts.proofs.Tasks.{goals-there, each-task-length, each-task-at}
+use Rattle.sheet_parts.proofs.Tasks.{goals-there, each-task-at}
 -- of any sheet: as many lists of goals as tasks; past the last task no goals; the last of the goals by its index
 pub use Rattle.sheet_parts.proofs.Tasks.{tasks-length, no-goals}
 pub use Rattle.sheet_parts.proofs.Words.{last-of}
@@ -144,14 +144,6 @@ module _ (s : List ℕ) (ok : cause s ≡ 0) where
   pub last-goal-free : (j : ℕ) → j < read s .count → T (free (read s) (lastGoal (read s) (task j)))
   last-goal-free j h =
       rw (last-of (goalsOf (read s) (task j))) (goal-free j (length (goalsOf (read s) (task j)) - 1) h (omega (arith, goals-range j h)))
-
-  pub last-goals-differ : (i k : ℕ) → i < read s .count → k < read s .count → lastGoal (read s) (task i) ≡ lastGoal (read s) (task k) → i ≡ k
-  unfolding goodLastGoals
-  last-goals-differ i k a b e =
-      let l = map (last 0) (read s .tasks) in
-      let n = each-task-length (last 0) s in
-      says-distinct l .fact (accepted s ok .last-goals) i k (omega arith) (omega arith)
-      (each-task-at (last 0) s i refl ∙ e ∙ sym (each-task-at (last 0) s k refl))
 
   -- the most goals of any task
   pub most-goals : mostGoals (read s) ≤ 8

@@ -5,7 +5,8 @@ use lib.ListN.{length}
 use Rattle.deck.specs.Calls.{searchCause, SearchCall}
 use Rattle.deck.specs.Numbers.{searchNumbers}
 use Rattle.deck.specs.declared.SearchAnswer.{SearchAnswer}
-use Rattle.search.proofs.Calling.{no-cause, call-refused, call-answered, right-of}
+use Rattle.meaning.proofs.Accepted.{search-accepted}
+use Rattle.search.proofs.Calling.{call-refused, call-answered, right-of}
 use Rattle.search.proofs.search.Statement.{statement}
 use Rattle.search.proofs.search.Tie as tie
 
@@ -30,7 +31,7 @@ accepted c = sym (c .before .refusal .ensures) ∙ c .if1 .left
 accepted-requires : tie.Need-accepted-requires
 accepted-requires c κs =
     let args = c .before .before .before .before .before .before .before .args in
-    no-cause (args .s .now) (length (args .work .now)) (length (args .out .now)) (accepted (c .before .before))
+    search-accepted (args .s .now) (length (args .work .now)) (length (args .out .now)) (accepted (c .before .before))
 
 same-length : tie.Need-same-length
 same-length c = search needs

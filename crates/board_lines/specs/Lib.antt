@@ -1,0 +1,4 @@
+pub mod Board
+pub mod Stands
+pub mod Small
+pub mod Rounds
