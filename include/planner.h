@@ -7,8 +7,9 @@
  * - No call keeps a pointer, allocates, blocks, or reads or writes anything but what is lent to it. Calls on different buffers
  *   may run at the same time.
  * - Every input is answered: bad bytes, lengths and numbers get a cause. The first number of an answer is the cause, 0 where the
- *   call is accepted; on a cause the other numbers are 0, but for the search's kind, 3, and its tasks, 255.
- * - A refused call writes its numbers, and the three lists of the least assignment, and nothing else.
+ *   call is accepted; on a cause the other numbers are 0, but for the kind, 3, and the tasks, 255, of a search (planner_search and
+ *   planner_gate_board).
+ * - A refused call writes its numbers, the three lists of the least assignment and the lines of the gate board, and nothing else.
  *
  * Sheets: bytes as document 01 says. m carriers and tasks, horizon H, places y * w + x. A path lists H + 1 places.
  * Grid bytes: 0 free; 1 blocked; 2, 3, 4 and 5 free, but a lane: it may be left only to the north (place - w), east, south or west.
@@ -95,6 +96,15 @@ void planner_first_collision(uint8_t m, uint8_t h, const uint16_t *paths, size_t
  *       is below, else 0; then the task of each of 12 carriers, 255 from m on, and 255 throughout without a plan. */
 void planner_search(const uint8_t *sheet, size_t sheet_len, uint32_t *work, size_t work_len, uint16_t *out, size_t out_len,
                     uint32_t *numbers);
+
+/* The gate board: has the search run, and lists the tasks of a plan in the order of their finishes. Causes 1 to 7, 10, 11, as the
+ * search has them; the board has none of its own. Its stack is the search's.
+ * work, out, numbers[17]: as planner_search takes and writes them; so a plan's paths are written too.
+ * lines[48]: twelve lines of four numbers each: the last goal (its place), the carrier, the task, the finish. Of a plan the first m
+ *       lines are one for each task, sorted by finish and then by last goal, both rising; the others are zeros. One of the first m
+ *       may be all zeros as well, so that m alone says how many there are. Without a plan, and on a cause, all 48 are 0. */
+void planner_gate_board(const uint8_t *sheet, size_t sheet_len, uint32_t *work, size_t work_len, uint16_t *out, size_t out_len,
+                        uint32_t *numbers, uint32_t *lines);
 
 /* Whether the tasks and paths are a plan for the sheet. Causes 1 to 7, 11.
  * tasks[12]: the task of each carrier, 255 from m on. paths: m * (H + 1) words, carrier by carrier.

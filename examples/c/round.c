@@ -1,4 +1,5 @@
-/* Plans one job sheet, with as much workspace as it asks for, and prints the listing of document 01.
+/* Plans one job sheet, with as much workspace as it asks for, and prints the listing of document 01; then, of a plan, the gate
+ * board: a line for each car, the first to arrive first.
  *
  *     cc -std=c99 -Wall -Wextra -pedantic -Iinclude examples/c/round.c target/staticlib/libplanner.a -o round
  *     ./round < sheet
@@ -14,24 +15,26 @@
 /* An accepted sheet has at most 1304 bytes; one byte more tells that there are too many. */
 enum { MOST_BYTES = 1304 };
 
-/* The time from which the path rests on its last place. */
-static size_t finish(const uint16_t *path, size_t steps)
+/* The listing's lines, one for each carrier. Each line of the board has a carrier and its finish. */
+static void print_paths(const uint32_t *tasks, const uint16_t *paths, const uint32_t *lines, size_t m, size_t steps)
 {
-    size_t time = steps - 1;
-    while (time > 0 && path[time - 1] == path[steps - 1])
-        time--;
-    return time;
-}
-
-static void print_paths(const uint32_t *tasks, const uint16_t *paths, size_t m, size_t steps)
-{
+    uint32_t finish[12] = {0};
+    for (size_t line = 0; line < m; line++)
+        finish[lines[4 * line + 1]] = lines[4 * line + 3];
     for (size_t carrier = 0; carrier < m; carrier++) {
-        const uint16_t *path = paths + carrier * steps;
-        printf("carrier %zu task %" PRIu32 " finish %zu:", carrier, tasks[carrier], finish(path, steps));
+        printf("carrier %zu task %" PRIu32 " finish %" PRIu32 ":", carrier, tasks[carrier], finish[carrier]);
         for (size_t time = 0; time < steps; time++)
-            printf(" %" PRIu16, path[time]);
+            printf(" %" PRIu16, paths[carrier * steps + time]);
         printf("\n");
     }
+}
+
+/* The gate board. A line may be all zeros, so that m says how many there are. */
+static void print_board(const uint32_t *lines, size_t m)
+{
+    for (size_t line = 0; line < m; line++, lines += 4)
+        printf("gate %" PRIu32 " carrier %" PRIu32 " task %" PRIu32 " finish %" PRIu32 "\n", lines[0], lines[1], lines[2],
+               lines[3]);
 }
 
 int main(void)
@@ -59,13 +62,15 @@ int main(void)
         return 4;
     }
 
-    /* The cause, the kind, the flowtime, the nodes, the bound, and the task of each of twelve carriers. */
-    uint32_t answer[17];
-    planner_search(sheet, bytes, work, words, paths, m * steps, answer);
+    /* The cause, the kind, the flowtime, the nodes, the bound, and the task of each of twelve carriers; then the board, four
+     * numbers to a line: gate, carrier, task, finish. planner_search takes and writes the same without a board. */
+    uint32_t answer[17], lines[48];
+    planner_gate_board(sheet, bytes, work, words, paths, m * steps, answer, lines);
     switch (answer[1]) {
     case 0:
         printf("plan %" PRIu32 " nodes %" PRIu32 "\n", answer[2], answer[3]);
-        print_paths(answer + 5, paths, m, steps);
+        print_paths(answer + 5, paths, lines, m, steps);
+        print_board(lines, m);
         break;
     case 1:
         printf("none nodes %" PRIu32 "\n", answer[3]);

@@ -57,6 +57,16 @@ mod exported {
             out_len: usize,
             numbers: *mut u32,
         );
+        pub fn planner_gate_board(
+            sheet: *const u8,
+            sheet_len: usize,
+            work: *mut u32,
+            work_len: usize,
+            out: *mut u16,
+            out_len: usize,
+            numbers: *mut u32,
+            lines: *mut u32,
+        );
     }
 }
 
@@ -207,4 +217,24 @@ pub fn search(sheet: &[u8], work: &mut [u32], out: &mut [u16]) -> [u32; 17] {
         )
     };
     numbers
+}
+
+/// The search's seventeen numbers, and twelve lines of four: last goal, carrier, task, finish. Of a plan the first m are filled; a
+/// filled line may be all zeros.
+pub fn gate_board(sheet: &[u8], work: &mut [u32], out: &mut [u16]) -> ([u32; 17], [u32; 48]) {
+    let (mut numbers, mut lines) = ([u32::from(OLD); 17], [u32::from(OLD); 48]);
+    // SAFETY: what is written, `work`, `out`, the seventeen numbers and the lines, is borrowed by this call alone.
+    unsafe {
+        exported::planner_gate_board(
+            sheet.as_ptr(),
+            sheet.len(),
+            work.as_mut_ptr(),
+            work.len(),
+            out.as_mut_ptr(),
+            out.len(),
+            numbers.as_mut_ptr(),
+            lines.as_mut_ptr(),
+        )
+    };
+    (numbers, lines)
 }

@@ -1,6 +1,7 @@
 //! Carrier rounds of least flowtime: a safe interface to the carrier round planner, which is written in Rattle and proved.
 //!
 //! A [`Sheet`] holds bytes that the planner accepts; [`Planner::search`] gives an [`Answer`], with a [`Plan`] where there is one;
+//! [`Planner::gate_board`] gives a [`GateBoard`]: the answer, and which car comes to which gate, and when;
 //! [`Sheet::check`] says whether tasks and paths from elsewhere are a plan. What a call declines has a [`Cause`], document 01's
 //! number and words; of a refused sheet a [`Refusal`] also says where. No input panics. [`calls`] has the exported calls as they
 //! are.
@@ -26,6 +27,7 @@
 
 #![deny(unsafe_code)]
 
+mod board;
 #[allow(unsafe_code)]
 pub mod calls;
 mod cause;
@@ -37,6 +39,7 @@ mod plan;
 mod planner;
 mod sheet;
 
+pub use board::{GateBoard, GateLine};
 pub use cause::Cause;
 pub use fault::{Fault, Field, Refusal, Unfit};
 pub use lane::Direction;

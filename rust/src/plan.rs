@@ -106,6 +106,15 @@ impl Answer {
         }
     }
 
+    /// The listing's first line, with its line break.
+    pub(crate) fn write_head(&self, f: &mut fmt::Formatter<'_>) -> fmt::Result {
+        match self {
+            Answer::Plan { plan, nodes } => writeln!(f, "plan {} nodes {nodes}", plan.flowtime),
+            Answer::NoPlan { nodes } => writeln!(f, "none nodes {nodes}"),
+            Answer::Spent { bound, nodes } => writeln!(f, "spent {bound} nodes {nodes}"),
+        }
+    }
+
     /// Of the call's numbers and the words that it wrote.
     pub(crate) fn of(sheet: &Sheet, numbers: &[u32; 17], words: &[u16]) -> Result<Answer, Cause> {
         let [cause, kind, flowtime, nodes, bound, tasks @ ..] = numbers;
@@ -125,14 +134,8 @@ impl Answer {
 /// The listing of document 01, each line with its line break.
 impl fmt::Display for Answer {
     fn fmt(&self, f: &mut fmt::Formatter<'_>) -> fmt::Result {
-        match self {
-            Answer::Plan { plan, nodes } => {
-                writeln!(f, "plan {} nodes {nodes}", plan.flowtime)?;
-                plan.fmt(f)
-            }
-            Answer::NoPlan { nodes } => writeln!(f, "none nodes {nodes}"),
-            Answer::Spent { bound, nodes } => writeln!(f, "spent {bound} nodes {nodes}"),
-        }
+        self.write_head(f)?;
+        self.plan().map_or(Ok(()), |plan| plan.fmt(f))
     }
 }
 

@@ -1,8 +1,9 @@
 //! The planner with its workspace.
 
-use crate::{calls, Answer, Carrier, Cause, Constraint, LeastPath, Place, Sheet, Task};
+use crate::{calls, Answer, Carrier, Cause, Constraint, GateBoard, LeastPath, Place, Sheet, Task};
 
-/// Runs searches and least paths, with a workspace of its own that grows as sheets ask for it, or in one that is lent to it.
+/// Runs searches, gate boards and least paths, with a workspace of its own that grows as sheets ask for it, or in one that is lent
+/// to it.
 ///
 /// ```
 /// use carrier_planner::{Planner, Sheet};
@@ -50,6 +51,15 @@ impl<'w> Planner<'w> {
         let out = at_least(&mut self.out, sheet.output()).ok_or(Cause::Output)?;
         let numbers = calls::search(sheet.bytes(), work, out);
         Answer::of(sheet, &numbers, out)
+    }
+
+    /// Has the search run, once, and gives its answer with the gate board of a plan. Workspace and stack are as for
+    /// [`Planner::search`].
+    pub fn gate_board(&mut self, sheet: &Sheet) -> Result<GateBoard, Cause> {
+        let work = self.work.at_least(sheet.workspace())?;
+        let out = at_least(&mut self.out, sheet.output()).ok_or(Cause::Output)?;
+        let (numbers, lines) = calls::gate_board(sheet.bytes(), work, out);
+        Ok(GateBoard::of(sheet, Answer::of(sheet, &numbers, out)?, &lines))
     }
 
     /// The carrier's least path for the task under the constraints; `None` if there is no path.

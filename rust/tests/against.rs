@@ -2,7 +2,7 @@
 
 use carrier_planner::{calls, *};
 use other::gen::Rng;
-use other::{check, collide, generated, kinds, naive, path, program, search, sheet, RULES};
+use other::{check, collide, gate_lines, generated, kinds, naive, path, program, search, sheet, RULES};
 
 /// Sheets of every kind; few of those that take long.
 fn sheets() -> impl Iterator<Item = (String, Vec<u8>)> {
@@ -103,6 +103,78 @@ fn searches() {
         assert_eq!(program::deckround(RULES, &bytes, sheet.workspace()), answer.to_string(), "{name}");
     }
     assert!(plans > 500 && nones > 100 && spents > 50, "{plans} plans, {nones} none, {spents} spent");
+}
+
+/// What lent buffers hold before a call.
+const WORK: u32 = 7;
+const WORD: u16 = 9;
+
+/// The board's call beside the search's, with the same buffers: numbers, words and workspace are the search's.
+#[test]
+fn gate_boards_are_of_the_search() {
+    for (name, bytes) in sheets() {
+        let (words, places) =
+            Sheet::new(bytes.as_slice()).map_or((20, 20), |sheet| (sheet.workspace(), sheet.output()));
+        // More than enough, then one too few of either: causes 10 and 11.
+        for (words, places) in [(words + 2, places + 3), (words - 1, places), (words, places - 1)] {
+            let lent = || (vec![WORK; words], vec![WORD; places]);
+            let ((mut work, mut out), (mut board_work, mut board_out)) = (lent(), lent());
+            let numbers = calls::search(&bytes, &mut work, &mut out);
+            let (board_numbers, lines) = calls::gate_board(&bytes, &mut board_work, &mut board_out);
+            assert_eq!(board_numbers, numbers, "{name}");
+            assert!(board_out == out, "{name}: other words");
+            assert!(board_work == work, "{name}: another workspace");
+            if numbers[0] != 0 {
+                let stay = work.iter().all(|&word| word == WORK) && out.iter().all(|&word| word == WORD);
+                assert!(stay, "{name}: refused, and written");
+            }
+            let filled = if numbers[1] == 0 { gate_lines(&bytes).concat() } else { Vec::new() };
+            let expected = filled.into_iter().map(u32::from).chain(std::iter::repeat(0)).take(lines.len());
+            assert!(expected.eq(lines), "{name}: {lines:?}");
+        }
+    }
+}
+
+/// The board beside the plan of the same search.
+#[test]
+fn gate_boards() {
+    let (mut planner, mut searcher) = (Planner::new(), Planner::new());
+    let (mut full, mut empty, mut ties) = (0, 0, 0);
+    for (name, bytes) in sheets() {
+        let Ok(sheet) = Sheet::new(bytes.as_slice()) else { continue };
+        let board = planner.gate_board(&sheet).expect("an accepted sheet");
+        assert_eq!(board.answer(), &searcher.search(&sheet).expect("an accepted sheet"), "{name}");
+        let head = board.answer().to_string().lines().next().map(|line| format!("{line}\n"));
+        let lines: String = board.lines().iter().map(|line| format!("{line}\n")).collect();
+        assert_eq!(Some(board.to_string()), head.map(|head| head + &lines), "{name}");
+        let numbers = board.lines().iter().map(|line| {
+            let GateLine { goal, carrier, task, finish } = line;
+            [goal.0, carrier.0 as u16, task.0 as u16, *finish as u16]
+        });
+        assert_eq!(numbers.collect::<Vec<_>>(), gate_lines(&bytes), "{name}");
+        let Some(plan) = board.plan() else {
+            empty += 1;
+            assert!(board.lines().is_empty(), "{name}");
+            continue;
+        };
+        full += 1;
+        for line in board.lines() {
+            assert_eq!(plan.task(line.carrier), Some(line.task), "{name}: {line}");
+            assert_eq!(plan.finish(line.carrier), Some(line.finish as usize), "{name}: {line}");
+            assert_eq!(sheet.goals(line.task).last(), Some(&line.goal), "{name}: {line}");
+            assert_eq!(plan.path(line.carrier).last(), Some(&line.goal), "{name}: {line}");
+        }
+        let mut tasks: Vec<Task> = board.lines().iter().map(|line| line.task).collect();
+        tasks.sort();
+        assert!(sheet.tasks().eq(tasks), "{name}: not every task once");
+        for two in board.lines().windows(2) {
+            assert!((two[0].finish, two[0].goal) < (two[1].finish, two[1].goal), "{name}: {board}");
+            ties += usize::from(two[0].finish == two[1].finish);
+        }
+        let flowtime: u32 = board.lines().iter().map(|line| line.finish).sum();
+        assert_eq!(flowtime, plan.flowtime(), "{name}");
+    }
+    assert!(full > 500 && empty > 150 && ties > 100, "{full} plans, {empty} without, {ties} of one finish");
 }
 
 #[test]

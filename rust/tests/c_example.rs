@@ -1,11 +1,12 @@
-//! The example in C: it compiles without a warning, and prints what the other author's listing program prints.
+//! The example in C: it compiles without a warning, and prints what the other author's listing program prints, then the other
+//! author's gate board.
 
 use std::io::Write;
 use std::path::{Path, PathBuf};
 use std::process::{Command, Stdio};
 
 use other::program::deckround;
-use other::{generated, kinds, PLENTY, RULES};
+use other::{gate_lines, generated, kinds, PLENTY, RULES};
 
 fn top() -> PathBuf {
     Path::new(env!("CARGO_MANIFEST_DIR")).join("..")
@@ -36,14 +37,17 @@ fn run(program: &Path, sheet: &[u8]) -> (Option<i32>, String) {
 }
 
 #[test]
-fn prints_the_listing() {
+fn prints_the_listing_and_the_board() {
     let program = Path::new(env!("CARGO_TARGET_TMPDIR")).join("round");
     compile(&program);
     for kind in kinds() {
         let seeds = if matches!(kind, "max" | "full") { 1 } else { 15 };
         for seed in 0..seeds {
             let sheet = generated(kind, seed);
-            let expected = deckround(RULES, &sheet, PLENTY);
+            let board = gate_lines(&sheet).into_iter().map(|[gate, carrier, task, finish]| {
+                format!("gate {gate} carrier {carrier} task {task} finish {finish}\n")
+            });
+            let expected = deckround(RULES, &sheet, PLENTY) + &board.collect::<String>();
             let status =
                 ["plan", "none", "spent", "refused"].iter().position(|kind| expected.starts_with(kind));
             let (code, printed) = run(&program, &sheet);

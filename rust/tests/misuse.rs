@@ -18,7 +18,9 @@ fn any_bytes() {
         assert!(refusal.fault.is_some(), "case {case}: {refusal}");
         assert!(!refusal.to_string().is_empty());
         let (mut work, mut out) = (vec![5; 20], vec![6; 20]);
-        assert_eq!(calls::search(&bytes, &mut work, &mut out)[..2], [refusal.cause.number(), 3]);
+        let numbers = calls::search(&bytes, &mut work, &mut out);
+        assert_eq!(numbers[..2], [refusal.cause.number(), 3]);
+        assert_eq!(calls::gate_board(&bytes, &mut work, &mut out), (numbers, [0; 48]));
         assert_eq!((work, out), (vec![5; 20], vec![6; 20]));
         assert_eq!(calls::task_goals(&bytes, rng.range(0, 20)), [0, 0]);
         assert_eq!(calls::workspace(&bytes), 0);
@@ -80,15 +82,43 @@ fn short_workspaces() {
             let mut lent = vec![77; words];
             let mut planner = Planner::within(&mut lent);
             assert_eq!(planner.search(&sheet), Err(Cause::Workspace));
+            assert_eq!(planner.gate_board(&sheet), Err(Cause::Workspace));
             assert_eq!(planner.least_path(&sheet, Carrier(0), Task(0), &[]), Err(Cause::Workspace));
             assert_eq!(planner.least_path(&sheet, Carrier(usize::MAX), Task(0), &[]), Err(Cause::Number));
             assert!(lent.iter().all(|&word| word == 77));
         }
         let mut lent = vec![u32::MAX; sheet.workspace() + 3];
         let (mine, spare) = lent.split_at_mut(sheet.workspace());
-        assert_eq!(Planner::within(mine).search(&sheet), Ok(answer));
+        assert_eq!(Planner::within(mine).search(&sheet).as_ref(), Ok(&answer));
+        assert_eq!(Planner::within(mine).gate_board(&sheet).map(GateBoard::into_answer), Ok(answer));
         assert_eq!(spare, [u32::MAX; 3]);
     }
+}
+
+#[test]
+fn short_buffers_of_a_gate_board() {
+    // One carrier on its gate: its line would be all zeros, and no refused call may be taken for it.
+    let sheet = Sheet::builder(1, 1).horizon(0).carrier(0, 0).task([(0, 0)]).build().expect("accepted");
+    let words = sheet.workspace();
+    for (words, places, cause) in [(words, 0, 11), (words - 1, 1, 10), (0, 0, 10), (words + 5, 0, 11)] {
+        let (mut work, mut out) = (vec![77; words], vec![78; places]);
+        let (numbers, lines) = calls::gate_board(sheet.bytes(), &mut work, &mut out);
+        assert_eq!(numbers[..5], [cause, 3, 0, 0, 0]);
+        assert_eq!((&numbers[5..], lines), (&[255; 12][..], [0; 48]));
+        assert!(work.iter().all(|&word| word == 77) && out.iter().all(|&word| word == 78));
+    }
+    let (mut work, mut out) = (vec![77; words], vec![78; 2]);
+    let (numbers, lines) = calls::gate_board(sheet.bytes(), &mut work, &mut out);
+    assert_eq!((&numbers[..6], lines, out), (&[0, 0, 0, 1, 0, 0][..], [0; 48], vec![0, 78]));
+}
+
+/// As much stack as the header says is enough, on the sheets with the longest paths.
+#[test]
+fn a_gate_board_on_a_small_stack() {
+    let sheets = [0, 1].map(|seed| Sheet::new(generated("max", seed)).expect("accepted"));
+    let board = move || sheets.iter().all(|sheet| Planner::new().gate_board(sheet).is_ok());
+    let thread = std::thread::Builder::new().stack_size(512 * 1024).spawn(board).expect("a thread");
+    assert!(thread.join().expect("no panic"));
 }
 
 #[test]

@@ -1,6 +1,6 @@
 //! The rounds that document 01 works out.
 
-use carrier_planner::{Answer, Cause, Planner, Sheet, SheetBuilder};
+use carrier_planner::{calls, Answer, Carrier, Cause, GateLine, Place, Planner, Sheet, SheetBuilder, Task};
 
 fn listing(builder: &SheetBuilder) -> String {
     let sheet = builder.build().expect("an accepted sheet");
@@ -46,6 +46,73 @@ fn rounds_5_and_6() {
     let bytes = [2, 2, 2, 3, 18, 0, 0, 0, 24, 0, 4, 0, 28, 0, 4, 0, 32, 0, 4, 0, 36, 0, 4, 0];
     let rest = [0, 0, 0, 0, 0, 0, 1, 0, 1, 0, 0, 0, 0, 0, 1, 0];
     assert_eq!(sheet.bytes(), [&bytes[..], &rest].concat());
+}
+
+/// What the call writes as lines, and the board as it is printed.
+fn board(builder: &SheetBuilder) -> ([u32; 48], String) {
+    let sheet = builder.build().expect("an accepted sheet");
+    let (mut work, mut out) = (vec![0; sheet.workspace()], vec![0; sheet.output()]);
+    let (_, lines) = calls::gate_board(sheet.bytes(), &mut work, &mut out);
+    (lines, Planner::new().gate_board(&sheet).expect("an accepted sheet").to_string())
+}
+
+/// Twelve lines, of which these are the first.
+fn lines(filled: &[[u32; 4]]) -> [u32; 48] {
+    let mut lines = [0; 48];
+    lines.iter_mut().zip(filled.concat()).for_each(|(number, value)| *number = value);
+    lines
+}
+
+#[test]
+fn gate_boards() {
+    // The carrier of round 1 is on its gate at time 0: the line is all zeros, and is a line.
+    let first = Sheet::builder(1, 1).horizon(0).carrier(0, 0).task([(0, 0)]);
+    let printed = "plan 0 nodes 1\ngate 0 carrier 0 task 0 finish 0\n";
+    assert_eq!(board(&first), ([0; 48], printed.to_string()));
+    let sixth = change(2, 3, 18);
+    let printed = "plan 4 nodes 18\ngate 0 carrier 1 task 0 finish 1\ngate 1 carrier 0 task 1 finish 3\n";
+    assert_eq!(board(&sixth), (lines(&[[0, 1, 0, 1], [1, 0, 1, 3]]), printed.to_string()));
+    let sheet = sixth.build().expect("accepted");
+    let found = Planner::new().gate_board(&sheet).expect("accepted");
+    let line = GateLine { goal: Place(1), carrier: Carrier(0), task: Task(1), finish: 3 };
+    assert_eq!((found.lines().len(), found.lines().last()), (2, Some(&line)));
+    // None with nodes and without, and spent: no lines.
+    for (round, printed) in [
+        (change(1, 2, 6), "none nodes 6\n"),
+        (Sheet::builder(2, 1).horizon(0).carrier(0, 0).task([(1, 0)]), "none nodes 0\n"),
+        (change(1, 2, 5), "spent 3 nodes 5\n"),
+        (change(2, 3, 17), "spent 4 nodes 17\n"),
+    ] {
+        assert_eq!(board(&round), ([0; 48], printed.to_string()));
+        let sheet = round.build().expect("accepted");
+        let found = Planner::new().gate_board(&sheet).expect("accepted");
+        assert!(found.lines().is_empty() && found.plan().is_none());
+    }
+}
+
+/// A carrier on each place of the lowest of three rows, and in each column the gate of a task so many steps above it. Straight up
+/// is the one assignment of least sum. Carriers are numbered from the right, tasks from the second column on, and later gates have
+/// lesser places: only finish and then gate gives the order below.
+fn columns(steps: &[u8]) -> SheetBuilder {
+    let width = steps.len() as u8;
+    let builder = (0..width).rev().fold(Sheet::builder(width, 3).horizon(4), |next, x| next.carrier(x, 2));
+    let gates: Vec<(u8, u8)> = (0..width).zip(steps.iter().map(|steps| 2 - steps)).collect();
+    gates.iter().cycle().skip(1).take(gates.len()).fold(builder, |next, &gate| next.task([gate]))
+}
+
+#[test]
+fn gate_boards_in_order() {
+    let (filled, printed) = board(&columns(&[2, 1, 2, 0, 1]));
+    let expected = [[13, 1, 2, 0], [6, 3, 0, 1], [9, 0, 3, 1], [0, 4, 4, 2], [2, 2, 1, 2]];
+    assert_eq!(filled, lines(&expected));
+    assert!(printed.starts_with("plan 6 nodes 1\ngate 13 carrier 1 task 2 finish 0\n"), "{printed}");
+    // Twelve tasks fill all lines.
+    let (filled, _) = board(&columns(&[1; 12]));
+    let expected: Vec<[u32; 4]> = (0..12).map(|x| [12 + x, 11 - x, (x + 11) % 12, 1]).collect();
+    assert_eq!(filled, lines(&expected));
+    // The carrier passes over its gate on the way to a stop behind it: that is not its finish.
+    let (filled, _) = board(&Sheet::builder(3, 1).horizon(4).carrier(0, 0).task([(2, 0), (1, 0)]));
+    assert_eq!(filled, lines(&[[1, 0, 0, 3]]));
 }
 
 #[test]

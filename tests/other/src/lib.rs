@@ -58,3 +58,13 @@ pub fn plain(kind: &str, seed: u64) -> Vec<u8> {
     let read = naive::read(Rules::BASE.changes(), &bytes).expect("an accepted sheet");
     naive::write(RULES.changes(), &read)
 }
+
+/// The lines of the gate board, with workspace and output enough: last goal, carrier, task and finish of each task of a plan. Their
+/// number comes from the task list, since a line may be all zeros.
+pub fn gate_lines(bytes: &[u8]) -> Vec<[u16; 4]> {
+    let words = sheet::read_sheet(RULES, bytes).map_or(0, |sheet| sheet.workspace_words());
+    let board = board::gate_board(RULES, bytes, &mut vec![0; words], &mut [0; program::OUTPUT]);
+    let filled = board.answer.tasks.iter().filter(|&&task| task != 255).count();
+    let lines = board.lines.iter().take(filled);
+    lines.map(|line| [line.last_goal, line.carrier, line.task, line.finish]).collect()
+}
