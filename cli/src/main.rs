@@ -14,7 +14,7 @@ use std::fs;
 use std::io::{self, IsTerminal, Read, Write};
 use std::process::ExitCode;
 
-use carrier_planner::{Answer, Planner, Refusal, Sheet};
+use carrier_planner::{Answer, Cause, Planner, Refusal, Sheet};
 
 use options::{Command, Form, Options};
 use page::Shown;
@@ -50,6 +50,7 @@ fn run(options: &Options) -> Result<u8, Stop> {
         Command::Text => write_text(options),
         Command::Explain => explain(options),
         Command::Plan => plan(options),
+        Command::Board => board(options),
         Command::Check => check(options),
         Command::View => show(options, page::page),
         Command::Picture => show(options, picture::picture),
@@ -157,9 +158,14 @@ fn explain(options: &Options) -> Result<u8, Stop> {
     }
 }
 
-fn search(options: &Options, sheet: &Sheet) -> Result<Answer, Stop> {
+/// Runs a call that searches, and says so if it takes long.
+fn search<T>(
+    options: &Options,
+    sheet: &Sheet,
+    call: impl FnOnce(&mut Planner<'static>, &Sheet) -> Result<T, Cause>,
+) -> Result<T, Stop> {
     let what = format!("searching, at most {} nodes", sheet.node_limit());
-    progress::with_progress(options.quiet, &what, || Planner::new().search(sheet))
+    progress::with_progress(options.quiet, &what, || call(&mut Planner::new(), sheet))
         .map_err(|cause| Stop(TROUBLE, cause.to_string()))
 }
 
@@ -171,21 +177,33 @@ fn status(answer: &Answer) -> u8 {
     }
 }
 
-fn plan(options: &Options) -> Result<u8, Stop> {
-    let sheet = match sheet(options)? {
-        Ok(sheet) => sheet,
-        Err((refusal, _)) => {
-            if options.json {
-                return say(options, report::refusal_json(&refusal).as_bytes()).map(|()| REFUSED);
-            }
-            eprintln!("deckplan: {}: {refusal}", named(options.file(0)));
-            return say(options, format!("refused {}\n", refusal.cause.number()).as_bytes())
-                .map(|()| REFUSED);
-        }
+/// The sheet; `None` of a refused one, whose cause is then printed in place of an answer.
+fn sheet_or_cause(options: &Options) -> Result<Option<Sheet>, Stop> {
+    let refusal = match sheet(options)? {
+        Ok(sheet) => return Ok(Some(sheet)),
+        Err((refusal, _)) => refusal,
     };
-    let answer = search(options, &sheet)?;
+    let printed = if options.json {
+        report::refusal_json(&refusal)
+    } else {
+        eprintln!("deckplan: {}: {refusal}", named(options.file(0)));
+        format!("refused {}\n", refusal.cause.number())
+    };
+    say(options, printed.as_bytes()).map(|()| None)
+}
+
+fn plan(options: &Options) -> Result<u8, Stop> {
+    let Some(sheet) = sheet_or_cause(options)? else { return Ok(REFUSED) };
+    let answer = search(options, &sheet, Planner::search)?;
     let printed = if options.json { report::answer_json(&sheet, &answer) } else { answer.to_string() };
     say(options, printed.as_bytes()).map(|()| status(&answer))
+}
+
+fn board(options: &Options) -> Result<u8, Stop> {
+    let Some(sheet) = sheet_or_cause(options)? else { return Ok(REFUSED) };
+    let board = search(options, &sheet, Planner::gate_board)?;
+    let printed = if options.json { report::board_json(&sheet, &board) } else { board.to_string() };
+    say(options, printed.as_bytes()).map(|()| status(board.answer()))
 }
 
 fn check(options: &Options) -> Result<u8, Stop> {
@@ -209,8 +227,9 @@ fn show(options: &Options, draw: fn(&str, &Shown) -> String) -> Result<u8, Stop>
     let name = if path == "-" { "Job sheet" } else { path.rsplit('/').next().unwrap_or(path) };
     match sheet(options)? {
         Ok(sheet) => {
-            let answer = search(options, &sheet)?;
-            say(options, draw(name, &Shown::Answered(&sheet, &answer)).as_bytes()).map(|()| status(&answer))
+            let board = search(options, &sheet, Planner::gate_board)?;
+            let drawn = draw(name, &Shown::Answered(&sheet, &board));
+            say(options, drawn.as_bytes()).map(|()| status(board.answer()))
         }
         Err((refusal, bytes)) => {
             say(options, draw(name, &Shown::Refused(&refusal, &bytes)).as_bytes()).map(|()| REFUSED)

@@ -4,6 +4,7 @@ pub const HELP: &str = "\
 deckplan writes, plans, checks and shows carrier rounds.
 
   deckplan plan FILE            search for a plan of least flowtime and print its listing
+  deckplan board FILE           search and print the gate board: which car comes to which gate, and when
   deckplan check FILE PLAN      say whether PLAN, a listing or JSON, is a plan for the sheet
   deckplan view FILE -o X.html  write a page that shows the plan step by step
   deckplan picture FILE -o X.svg  write a picture of the plan, for print
@@ -15,7 +16,7 @@ FILE is a job sheet or a text, whichever it looks like; `-`, or none, is standar
 
   -o, --output FILE   write there instead of to standard output
   --nodes N           search with this node limit, 1 to 4096, instead of the sheet's
-  --json              print JSON (plan, check, explain)
+  --json              print JSON (plan, board, check, explain)
   --as-sheet, --as-text   take FILE as a sheet or as a text, whatever it looks like
   -q, --quiet         say nothing while a search runs (otherwise after one second)
   -h, --help          this; -V, --version: the version
@@ -46,6 +47,7 @@ pub enum Command {
     Text,
     Explain,
     Plan,
+    Board,
     Check,
     View,
     Picture,
@@ -72,11 +74,12 @@ pub struct Options {
     pub form: Form,
 }
 
-const COMMANDS: [(&str, Command); 8] = [
+const COMMANDS: [(&str, Command); 9] = [
     ("sheet", Command::Sheet),
     ("text", Command::Text),
     ("explain", Command::Explain),
     ("plan", Command::Plan),
+    ("board", Command::Board),
     ("check", Command::Check),
     ("view", Command::View),
     ("picture", Command::Picture),

@@ -9,7 +9,8 @@
     trail: floor.querySelector(`#trails > [data-carrier="${i}"]`),
     gate: floor.querySelector(`#gates > [data-carrier="${i}"]`),
     stops: floor.querySelector(`#stops > [data-carrier="${i}"]`),
-    row: document.querySelector(`tr[data-carrier="${i}"]`),
+    row: document.querySelector(`#rounds tr[data-carrier="${i}"]`),
+    line: document.querySelector(`#board tr[data-carrier="${i}"]`),
   }));
   const still = window.matchMedia("(prefers-reduced-motion: reduce)");
   // time goes on between steps while it plays; step is the last whole time.
@@ -24,6 +25,13 @@
     return next === carrier.path[step] ? `${at}, waits` : `${at}, goes to ${point(next).join(",")}`;
   };
 
+  // On the gate board: whether the line's car has arrived, or in how many steps it does.
+  const arrival = (line) => {
+    const left = Number(line.dataset.finish) - step;
+    line.classList.toggle("arrived", left <= 0);
+    line.querySelector(".arrival").textContent = left <= 0 ? "arrived" : left === 1 ? "in 1 step" : `in ${left} steps`;
+  };
+
   const tell = () => {
     slider.value = step;
     const words = `time ${step} of ${data.horizon}`;
@@ -32,6 +40,7 @@
     for (const carrier of carriers) {
       carrier.row.querySelector(".state").textContent = state(carrier);
       carrier.token.classList.toggle("done", step >= carrier.finish);
+      arrival(carrier.line);
       carrier.visits.forEach((visit, goal) => {
         // A gate counts as reached at the finish: before it a carrier may pass over it.
         const last = goal + 1 === carrier.visits.length, met = step >= (last ? carrier.finish : visit);
@@ -80,7 +89,7 @@
     document.body.classList.toggle("picked", chosen >= 0);
     carriers.forEach((carrier, j) => {
       const on = j === chosen;
-      for (const part of [carrier.token, carrier.gate, carrier.stops, carrier.row]) part.classList.toggle("chosen", on);
+      for (const part of [carrier.token, carrier.gate, carrier.stops, carrier.row, carrier.line]) part.classList.toggle("chosen", on);
       carrier.trail.classList.toggle("shown", on || paths.checked);
       carrier.row.querySelector(".pick").setAttribute("aria-pressed", String(on));
     });

@@ -2,16 +2,16 @@
 
 use std::fmt::Write;
 
-use carrier_planner::{Answer, Carrier, Plan, Refusal, Sheet};
+use carrier_planner::{Answer, Carrier, GateBoard, GateLine, Plan, Refusal, Sheet};
 
 use crate::floor::{self, escaped, point, short, CELL, RULER};
 use crate::json::numbers;
-use crate::report::answer_words;
+use crate::report::{answer_words, count};
 use crate::text::{carrier_letter, task_letter};
 
 /// What is shown.
 pub enum Shown<'a> {
-    Answered(&'a Sheet, &'a Answer),
+    Answered(&'a Sheet, &'a GateBoard),
     Refused(&'a Refusal, &'a [u8]),
 }
 
@@ -20,9 +20,9 @@ const SCRIPT: &str = include_str!("page.js");
 
 pub fn page(name: &str, shown: &Shown) -> String {
     let (heading, body) = match shown {
-        Shown::Answered(sheet, answer) => {
-            let (heading, sentence) = answer_words(sheet, answer);
-            (heading, answered(sheet, answer, &sentence))
+        Shown::Answered(sheet, board) => {
+            let (heading, sentence) = answer_words(sheet, board.answer());
+            (heading, answered(sheet, board, &sentence))
         }
         Shown::Refused(refusal, bytes) => (
             format!("Refused: cause {}", refusal.cause.number()),
@@ -30,9 +30,11 @@ pub fn page(name: &str, shown: &Shown) -> String {
         ),
     };
     let kind = match shown {
-        Shown::Answered(_, Answer::Plan { .. }) => "plan",
-        Shown::Answered(_, Answer::NoPlan { .. }) => "none",
-        Shown::Answered(_, Answer::Spent { .. }) => "spent",
+        Shown::Answered(_, board) => match board.answer() {
+            Answer::Plan { .. } => "plan",
+            Answer::NoPlan { .. } => "none",
+            Answer::Spent { .. } => "spent",
+        },
         Shown::Refused(..) => "refused",
     };
     let name = escaped(name);
@@ -54,15 +56,16 @@ pub fn refusal_words(refusal: &Refusal) -> String {
     }
 }
 
-fn answered(sheet: &Sheet, answer: &Answer, sentence: &str) -> String {
+fn answered(sheet: &Sheet, board: &GateBoard, sentence: &str) -> String {
     let sentence = format!("<p class=\"words\">{}</p>\n", escaped(sentence));
-    let floor = floor_svg(sheet, answer.plan());
-    match answer.plan() {
+    let floor = floor_svg(sheet, board.plan());
+    match board.plan() {
         // Beside the floor, so that a large floor has the window's height.
         Some(plan) => format!(
-            "<main>\n<section class=\"left\">\n{floor}{}</section>\n<section class=\"right\">\n{sentence}{}{}{}</section>\n</main>\n\
+            "<main>\n<section class=\"left\">\n{floor}{}</section>\n<section class=\"right\">\n{sentence}{}{}{}{}</section>\n</main>\n\
              <script type=\"application/json\" id=\"data\">{}</script>\n<script>\n{SCRIPT}</script>\n",
             controls(sheet),
+            gate_board(sheet, board),
             rounds(sheet, plan),
             keys(plan),
             legend(sheet),
@@ -174,6 +177,44 @@ fn last_finish(plan: &Plan) -> usize {
     plan.carriers().filter_map(|carrier| plan.finish(carrier)).max().unwrap_or(0)
 }
 
+/// A carrier's number on its colour, then its letter.
+fn named(carrier: Carrier) -> String {
+    format!("<span class=\"dot\">{}</span> {}", carrier.0, carrier_letter(carrier))
+}
+
+/// The colours of [`named`], for the style of an element around it.
+fn colours(carrier: Carrier) -> String {
+    let colour = floor::colour(carrier);
+    format!("--c:{colour};--i:{}", floor::ink(colour))
+}
+
+/// The gate board at time 0, in the order in which the cars arrive; the script says which have arrived.
+fn gate_board(sheet: &Sheet, board: &GateBoard) -> String {
+    let rows: String = board.lines().iter().map(|line| gate_line(sheet, line)).collect();
+    format!(
+        "<table id=\"board\"><caption>Gate board</caption>\n<thead><tr><th scope=\"col\">Gate</th><th scope=\"col\">Carrier</th>\
+         <th scope=\"col\">Task</th><th scope=\"col\">Arrival</th><th scope=\"col\">Now</th></tr></thead>\n<tbody>\n{rows}</tbody></table>\n"
+    )
+}
+
+fn gate_line(sheet: &Sheet, line: &GateLine) -> String {
+    let &GateLine { goal, carrier, task, finish } = line;
+    let (class, now) = match finish {
+        0 => (" class=\"arrived\"", "arrived".to_string()),
+        _ => ("", format!("in {}", count(finish as usize, "step"))),
+    };
+    format!(
+        "<tr data-carrier=\"{}\" data-finish=\"{finish}\"{class}><th scope=\"row\">{}</th><td style=\"{}\">{}</td>\
+         <td>{} {}</td><td class=\"number\">{finish}</td><td class=\"arrival\">{now}</td></tr>\n",
+        carrier.0,
+        point(sheet, goal),
+        colours(carrier),
+        named(carrier),
+        task.0,
+        task_letter(task)
+    )
+}
+
 /// The table of the carriers of a plan.
 fn rounds(sheet: &Sheet, plan: &Plan) -> String {
     let mut rows = String::new();
@@ -195,19 +236,18 @@ fn rounds(sheet: &Sheet, plan: &Plan) -> String {
         let _ = writeln!(
             rows,
             "<tr data-carrier=\"{i}\"><th scope=\"row\"><button type=\"button\" class=\"pick\" aria-pressed=\"false\" \
-             style=\"--c:{colour};--i:{ink}\"><span class=\"dot\">{i}</span> {letter}</button></th>\
+             style=\"{colours}\">{named}</button></th>\
              <td>{task} {task_letter}</td><td><ol>{stops}</ol></td><td class=\"number\">{finish}</td>\
              <td class=\"state\">{start}</td></tr>",
             i = carrier.0,
-            letter = carrier_letter(carrier),
-            colour = floor::colour(carrier),
-            ink = floor::ink(floor::colour(carrier)),
+            colours = colours(carrier),
+            named = named(carrier),
             task = task.0,
             task_letter = task_letter(task),
         );
     }
     format!(
-        "<table><thead><tr><th scope=\"col\">Carrier</th><th scope=\"col\">Task</th>\
+        "<table id=\"rounds\"><caption>Carriers</caption>\n<thead><tr><th scope=\"col\">Carrier</th><th scope=\"col\">Task</th>\
          <th scope=\"col\">Start, stops, <b>gate</b></th><th scope=\"col\">Finish</th><th scope=\"col\">Now</th></tr></thead>\n\
          <tbody>\n{rows}</tbody>\n<tfoot><tr><th scope=\"row\" colspan=\"3\">Flowtime</th><td class=\"number\">{}</td><td></td></tr></tfoot></table>\n",
         plan.flowtime()

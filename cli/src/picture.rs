@@ -35,7 +35,7 @@ fn letters(width: f64) -> usize {
 
 pub fn picture(name: &str, shown: &Shown) -> String {
     let (heading, sentence) = match shown {
-        Shown::Answered(sheet, answer) => answer_words(sheet, answer),
+        Shown::Answered(sheet, board) => answer_words(sheet, board.answer()),
         Shown::Refused(refusal, _) => {
             (format!("Refused: cause {}", refusal.cause.number()), refusal_words(refusal))
         }
@@ -59,7 +59,8 @@ pub fn picture(name: &str, shown: &Shown) -> String {
         let _ = writeln!(body, "<text class=\"words\" x=\"0\" y=\"{y}\">{}</text>", escaped(&line));
         y += 16.0;
     }
-    if let Shown::Answered(sheet, answer) = shown {
+    if let Shown::Answered(sheet, board) = shown {
+        let answer = board.answer();
         let larger = scale(sheet.width() as f64 * CELL + RULER);
         let (right, down) = (short(RULER * larger), short(y + 14.0 * larger));
         let _ = writeln!(body, "<g transform=\"translate({right} {down}) scale({})\">", short(larger));

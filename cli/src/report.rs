@@ -1,11 +1,29 @@
 //! Answers and refusals in words and as JSON.
 
-use carrier_planner::{Answer, Plan, Refusal, Sheet};
+use carrier_planner::{Answer, GateBoard, GateLine, Plan, Refusal, Sheet};
 
 use crate::json::{numbers, quoted};
 
 /// An answer as JSON, in one line.
 pub fn answer_json(sheet: &Sheet, answer: &Answer) -> String {
+    format!("{{{}}}\n", answer_fields(sheet, answer))
+}
+
+/// The answer as JSON with the lines of the gate board, in one line. Without a plan the list of lines is empty.
+pub fn board_json(sheet: &Sheet, board: &GateBoard) -> String {
+    let lines: Vec<String> = board
+        .lines()
+        .iter()
+        .map(|&GateLine { goal, carrier, task, finish }| {
+            let (carrier, task) = (carrier.0, task.0);
+            format!("{{\"gate\":{goal},\"carrier\":{carrier},\"task\":{task},\"finish\":{finish}}}")
+        })
+        .collect();
+    format!("{{{},\"lines\":[{}]}}\n", answer_fields(sheet, board.answer()), lines.join(","))
+}
+
+/// The fields of an answer, without braces.
+fn answer_fields(sheet: &Sheet, answer: &Answer) -> String {
     let (nodes, bound) = (answer.nodes(), answer.bound());
     let head = |kind: &str| {
         format!(
@@ -16,9 +34,9 @@ pub fn answer_json(sheet: &Sheet, answer: &Answer) -> String {
         )
     };
     match answer {
-        Answer::Plan { plan, .. } => format!("{{{},{}}}\n", head("plan"), plan_fields(sheet, plan)),
-        Answer::NoPlan { .. } => format!("{{{}}}\n", head("none")),
-        Answer::Spent { .. } => format!("{{{}}}\n", head("spent")),
+        Answer::Plan { plan, .. } => format!("{},{}", head("plan"), plan_fields(sheet, plan)),
+        Answer::NoPlan { .. } => head("none"),
+        Answer::Spent { .. } => head("spent"),
     }
 }
 

@@ -4,7 +4,7 @@ mod common;
 
 use common::{deckplan, file};
 use other::program::deckround;
-use other::{generated, kinds, PLENTY, RULES};
+use other::{gate_lines, generated, kinds, PLENTY, RULES};
 
 /// Elements of HTML without an end.
 const EMPTY: [&str; 3] = ["meta", "input", "!DOCTYPE"];
@@ -41,6 +41,47 @@ fn complete(name: &str, text: &str) {
     }
 }
 
+/// Text without its tags, a space for each.
+fn words(text: &str) -> String {
+    let apart = text.split('<').map(|part| part.split_once('>').map_or(part, |(_, after)| after));
+    apart.collect::<Vec<_>>().join(" ").split_whitespace().collect::<Vec<_>>().join(" ")
+}
+
+/// The rows of a page's gate board, as the words that they show.
+fn board_rows(page: &str) -> Vec<String> {
+    let (_, after) = page.split_once("<table id=\"board\">").expect("a board");
+    let (board, _) = after.split_once("</table>").expect("its end");
+    let (head, rows) = board.split_once("<tbody>").expect("rows");
+    assert_eq!(words(head), "Gate board Gate Carrier Task Arrival Now");
+    rows.split_inclusive("</tr>").map(words).filter(|row| !row.is_empty()).collect()
+}
+
+/// The same of the other author's board: gate, carrier, task, finish, and what is to come at time 0.
+fn expected_rows(sheet: &[u8]) -> Vec<String> {
+    let width = u16::from(sheet[0]);
+    let letter = |first: char, number: u16| char::from(first as u8 + number as u8);
+    let rows = gate_lines(sheet).into_iter().map(|[gate, carrier, task, finish]| {
+        let now = match finish {
+            0 => "arrived".to_string(),
+            1 => "in 1 step".to_string(),
+            _ => format!("in {finish} steps"),
+        };
+        let (column, row) = (gate % width, gate / width);
+        let (owner, job) = (letter('A', carrier), letter('a', task));
+        format!("{column},{row} {carrier} {owner} {task} {job} {finish} {now}")
+    });
+    rows.collect()
+}
+
+#[test]
+fn the_gate_board_of_round_6() {
+    let page = deckplan(&["view", "--as-text"], b"horizon 3\nfloor\nAB\n..\n\ntask a: B A\ntask b: A B\n");
+    assert_eq!(board_rows(&page.printed()), ["0,0 1 B 0 a 1 in 1 step", "1,0 0 A 1 b 3 in 3 steps"]);
+    let there = deckplan(&["view", "--as-text"], b"horizon 0\nfloor\nA\n\ntask a: A\n").printed();
+    assert_eq!(board_rows(&there), ["0,0 0 A 0 a 0 arrived"]);
+    assert!(there.contains("data-finish=\"0\" class=\"arrived\">"));
+}
+
 #[test]
 fn pages_and_pictures_of_all_kinds() {
     for kind in kinds() {
@@ -65,9 +106,12 @@ fn pages_and_pictures_of_all_kinds() {
                 complete(&name, &text);
                 let carriers = if status == 3 { 0 } else { usize::from(bytes[2]) };
                 assert_eq!(text.matches("class=\"token\"").count(), carriers, "{name}");
-                if command == "picture" || status != 0 {
+                let boards = usize::from(command == "view" && status == 0);
+                assert_eq!(text.matches("id=\"board\"").count(), boards, "{name}");
+                if boards == 0 {
                     continue;
                 }
+                assert_eq!(board_rows(&text), expected_rows(&bytes), "{name}");
                 for line in listing.lines().skip(1) {
                     let (head, path) = line.split_once(": ").expect("a carrier's line");
                     let finish = head.rsplit(' ').next().expect("a finish");

@@ -1,11 +1,11 @@
-//! `plan`, `check` and `explain` beside the other author's planner, and the command line.
+//! `plan`, `board`, `check` and `explain` beside the other author's planner, and the command line.
 
 mod common;
 
 use common::{deckplan, file};
 use other::gen::Rng;
 use other::program::deckround;
-use other::{generated, kinds, PLENTY, RULES};
+use other::{gate_lines, generated, kinds, PLENTY, RULES};
 
 #[test]
 fn listings_json_and_checks_of_all_kinds() {
@@ -42,6 +42,77 @@ fn listings_json_and_checks_of_all_kinds() {
             }
         }
     }
+}
+
+#[test]
+fn boards_of_all_kinds() {
+    for kind in kinds() {
+        let seeds = if matches!(kind, "max" | "full") { 1 } else { 12 };
+        for seed in 0..seeds {
+            let name = format!("{kind} {seed}");
+            let bytes = generated(kind, seed);
+            let [plan, board] = ["plan", "board"].map(|name| deckplan(&[name, "-q", "--as-sheet"], &bytes));
+            // What a refused sheet is told, and the status, are those of `plan`.
+            assert_eq!((board.status, &board.error), (plan.status, &plan.error), "{name}");
+            let listing = deckround(RULES, &bytes, PLENTY);
+            let head = listing.lines().next().expect("a first line");
+            let lines = gate_lines(&bytes);
+            let text: String = lines.iter().map(|line| format!("{}\n", line_text(line))).collect();
+            assert_eq!(board.printed(), format!("{head}\n{text}"), "{name}");
+            let json = deckplan(&["board", "--json", "--as-sheet"], &bytes);
+            assert_eq!(json.status, plan.status, "{name}");
+            let plan_json = deckplan(&["plan", "--json", "--as-sheet"], &bytes).printed();
+            let expected = match plan.status {
+                3 => plan_json,
+                _ => plan_json.replace("}\n", &format!(",\"lines\":[{}]}}\n", lines_json(&lines))),
+            };
+            assert_eq!(json.printed(), expected, "{name}");
+        }
+    }
+}
+
+fn line_text([gate, carrier, task, finish]: &[u16; 4]) -> String {
+    format!("gate {gate} carrier {carrier} task {task} finish {finish}")
+}
+
+fn lines_json(lines: &[[u16; 4]]) -> String {
+    let lines = lines.iter().map(|[gate, carrier, task, finish]| {
+        format!("{{\"gate\":{gate},\"carrier\":{carrier},\"task\":{task},\"finish\":{finish}}}")
+    });
+    lines.collect::<Vec<_>>().join(",")
+}
+
+#[test]
+fn boards() {
+    let text = SHEET.as_bytes();
+    let printed = "plan 4 nodes 18\ngate 0 carrier 1 task 0 finish 1\ngate 1 carrier 0 task 1 finish 3\n";
+    let board = deckplan(&["board"], text);
+    assert_eq!((board.status, board.printed().as_str(), board.error.as_str()), (0, printed, ""));
+    // One carrier on its gate: a line of zeros is a line.
+    let there = deckplan(&["board"], b"horizon 0\nfloor\nA\n\ntask a: A\n");
+    assert_eq!(there.printed(), "plan 0 nodes 1\ngate 0 carrier 0 task 0 finish 0\n");
+    let spent = deckplan(&["board", "--nodes", "17", "-q"], text);
+    assert_eq!((spent.status, spent.printed().as_str()), (2, "spent 4 nodes 17\n"));
+    let spent = deckplan(&["board", "--nodes=17", "--json"], text);
+    let empty =
+        "{\"kind\":\"spent\",\"nodes\":17,\"bound\":4,\"width\":2,\"height\":2,\"horizon\":3,\"lines\":[]}\n";
+    assert_eq!((spent.status, spent.printed().as_str()), (2, empty));
+    let none = deckplan(&["board"], b"horizon 0\nfloor\nAa\n");
+    assert_eq!((none.status, none.printed().as_str()), (1, "none nodes 0\n"));
+    let refused = deckplan(&["board"], &[0; 7]);
+    assert_eq!((refused.status, refused.printed().as_str()), (3, "refused 1\n"));
+    assert!(refused.error.contains("standard input: cause 1: under 8 bytes"), "{}", refused.error);
+    let path = file("board.txt", b"");
+    assert_eq!(deckplan(&["board", "-o", &path], text).out, b"");
+    assert_eq!(std::fs::read_to_string(&path).expect("written"), printed);
+    // The JSON has the plan too, and so can be checked; the text has no paths.
+    let sheet = file("round6c.txt", text);
+    let json = deckplan(&["board", "--json"], text);
+    let lines = "\"lines\":[{\"gate\":0,\"carrier\":1,\"task\":0,\"finish\":1},{\"gate\":1,\"carrier\":0,\"task\":1,\"finish\":3}]}\n";
+    assert!(json.printed().ends_with(lines), "{}", json.printed());
+    assert_eq!(deckplan(&["check", &sheet, "-"], &json.out).printed(), "yes, a plan of flowtime 4\n");
+    assert_eq!(deckplan(&["check", &sheet, &path], b"").status, 3);
+    assert!(deckplan(&["--help"], b"").printed().contains("\n  deckplan board FILE "));
 }
 
 const SHEET: &str = "horizon 3\nnodes 18\n\nfloor\nAB\n..\n\ntask a: B A\ntask b: A B\n";
