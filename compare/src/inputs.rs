@@ -154,6 +154,31 @@ pub fn any(limit: usize, rng: &mut Rng) -> Vec<u8> {
     Draft { w, h, horizon, limit, grid, starts, tasks, ..Draft::default() }.bytes_under(RULES)
 }
 
+/// A sheet on which many carriers finish at one time: each has a row of its own, and there a task whose goals are to and fro, mostly
+/// over as many places as others'. Rows, carriers and tasks are numbered without regard to each other; a third with lanes.
+pub fn equal_finishes(limit: usize, rng: &mut Rng) -> Vec<u8> {
+    let most = rng.pick(&[4, 8, 32]);
+    let count = rng.range(2, most.min(12));
+    let (w, h) = (rng.range(2, most), rng.range(count, most));
+    let (steps, goals) = ([rng.range(0, w - 1), rng.range(0, w - 1)], rng.pick(&[1, 1, 2, 3, 8]));
+    let rows: Vec<usize> = (0..h).collect();
+    let (mut starts, mut tasks) = (Vec::new(), Vec::new());
+    for row in rng.sample(&rows, count) {
+        let far = rng.pick(&steps);
+        let west = row * w + rng.range(0, w - 1 - far);
+        let ends = if rng.chance(1, 2) { [west, west + far] } else { [west + far, west] };
+        starts.push(ends[0]);
+        tasks.push((1..=rng.range(1, goals)).map(|number| ends[number % 2]).collect());
+    }
+    rng.shuffle(&mut tasks);
+    let mut grid = vec![0; w * h];
+    if rng.chance(1, 3) {
+        add_lanes(&mut grid, 5, rng);
+    }
+    let horizon = goals * steps[0].max(steps[1]) + rng.range(0, 7);
+    Draft { w, h, horizon, limit, grid, starts, tasks, ..Draft::default() }.bytes_under(RULES)
+}
+
 /// A sheet without a plan: two carriers in a stretch of two places cannot pass each other. All others are free, so that there are
 /// roots without end.
 pub fn stuck(side: usize, horizon: usize, rng: &mut Rng) -> Vec<u8> {

@@ -1,6 +1,7 @@
 //! The other planner's answers as the numbers that the exported calls write.
 
 use other::assign::{AssignmentAnswer, AssignmentKind};
+use other::board::BoardAnswer;
 use other::check::{CheckAnswer, CheckKind};
 use other::collide::{CollisionAnswer, CollisionKind};
 use other::path::{PathAnswer, PathKind};
@@ -56,4 +57,13 @@ pub fn search_numbers(answer: &SearchAnswer) -> [u32; 17] {
         *number = u32::from(task);
     }
     numbers
+}
+
+/// The search's numbers and the twelve lines.
+pub fn board_numbers(board: &BoardAnswer) -> ([u32; 17], [u32; 48]) {
+    let mut lines = [0; 48];
+    for (numbers, line) in lines.chunks_exact_mut(4).zip(&board.lines) {
+        numbers.copy_from_slice(&[line.last_goal, line.carrier, line.task, line.finish].map(u32::from));
+    }
+    (search_numbers(&board.answer), lines)
 }

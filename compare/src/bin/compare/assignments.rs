@@ -37,7 +37,7 @@ pub fn run(share: &Share) -> Tally {
 /// The first few in order, of some tables the first thousand, with room for more, for fewer or for none, in a workspace of any
 /// content.
 fn in_order(tally: &mut Tally, m: u8, entries: &[u16], seed: u64, rng: &mut Rng) {
-    let most = if seed % 200 == 0 { 1500 } else { 30 };
+    let most = if seed.is_multiple_of(200) { 1500 } else { 30 };
     let (records, fit) = (rng.range(0, most), rng.range(0, most));
     let mut work = vec![0; 512 * records + rng.pick(&[0, 1, 511])];
     junk(&mut work, rng);

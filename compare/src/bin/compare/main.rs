@@ -2,7 +2,9 @@
 //! 'N passed, M failed', and the exit status is 0 only if M is 0.
 
 mod assignments;
+mod boards;
 mod collisions;
+mod lines;
 mod paths;
 mod plans;
 mod searches;
@@ -18,8 +20,8 @@ pub struct Tally {
     failed: u64,
     /// How often each kind of answer came.
     kinds: BTreeMap<String, u64>,
-    /// How many of the comparisons were on sheets with lanes.
-    lanes: u64,
+    /// How many of the comparisons had what is counted besides, such as lanes on the sheet.
+    having: BTreeMap<&'static str, u64>,
     /// The first failures, in words.
     seen: Vec<String>,
 }
@@ -27,8 +29,15 @@ pub struct Tally {
 impl Tally {
     /// One comparison on this sheet, of an answer of this kind.
     pub fn count_on(&mut self, sheet: &[u8], ok: bool, kind: String, what: impl Fn() -> String) {
-        self.lanes += u64::from(other::has_lanes(sheet));
+        if other::has_lanes(sheet) {
+            self.note("lanes");
+        }
         self.count(ok, kind, what);
+    }
+
+    /// The comparison has this, too.
+    pub fn note(&mut self, what: &'static str) {
+        *self.having.entry(what).or_default() += 1;
     }
 
     /// One comparison, of an answer of this kind.
@@ -76,6 +85,7 @@ const PARTS: &[Part] = &[
     ("first collisions", collisions::run),
     ("plan checks", plans::run),
     ("searches", searches::run),
+    ("gate boards", boards::run),
 ];
 
 /// Each part's seeds are split over this many threads; what is compared does not depend on it.
@@ -93,16 +103,22 @@ fn main() -> ExitCode {
         for line in tallies.iter().flat_map(|tally| &tally.seen) {
             println!("{name}: {line}");
         }
-        let lanes: u64 = tallies.iter().map(|tally| tally.lanes).sum();
-        let mut kinds = BTreeMap::new();
-        for (kind, count) in tallies.into_iter().flat_map(|tally| tally.kinds) {
-            *kinds.entry(kind).or_insert(0) += count;
-        }
+        let kinds = added(tallies.iter().map(|tally| &tally.kinds));
         let kinds: Vec<String> = kinds.iter().map(|(kind, count)| format!("{kind} {count}")).collect();
-        let lanes = if lanes > 0 { format!("; with lanes {lanes}") } else { String::new() };
-        println!("{name} ({}{lanes}): {good} passed, {bad} failed", kinds.join(", "));
+        let having = added(tallies.iter().map(|tally| &tally.having));
+        let having: String = having.iter().map(|(what, count)| format!("; with {what} {count}")).collect();
+        println!("{name} ({}{having}): {good} passed, {bad} failed", kinds.join(", "));
         passed += good;
         failed += bad;
     }
     compare::ended(passed, failed)
+}
+
+/// The counts of all maps, added up.
+fn added<'a, K: Ord + Clone + 'a>(maps: impl Iterator<Item = &'a BTreeMap<K, u64>>) -> BTreeMap<K, u64> {
+    let mut sums = BTreeMap::new();
+    for (key, count) in maps.flatten() {
+        *sums.entry(key.clone()).or_insert(0) += count;
+    }
+    sums
 }

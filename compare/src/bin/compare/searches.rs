@@ -11,7 +11,7 @@ use other::{generated, kinds, naive, PLENTY, RULES};
 use crate::{Share, Tally};
 
 /// Words after the lent ones, which no call may touch.
-const PAST: usize = 8;
+pub const PAST: usize = 8;
 
 struct Lent {
     work: Vec<u32>,
@@ -19,7 +19,7 @@ struct Lent {
 }
 
 /// Node limits that every sheet is searched under besides its own.
-const LIMITS: [u16; 6] = [1, 2, 3, 5, 17, 60];
+pub const LIMITS: [u16; 6] = [1, 2, 3, 5, 17, 60];
 
 pub fn run(share: &Share) -> Tally {
     let mut tally = Tally::default();
@@ -88,6 +88,17 @@ fn is_tiny(bytes: &[u8]) -> bool {
     read_sheet(RULES, bytes).is_ok_and(|sheet| sheet.area() <= 9 && sheet.horizon <= 7 && sheet.m <= 3)
 }
 
+/// How many words of workspace and of output a sheet asks for; for a refused one, some.
+pub fn asked(bytes: &[u8]) -> (usize, usize) {
+    read_sheet(RULES, bytes).map_or((1000, 100), |sheet| (sheet.workspace_words(), sheet.plan_words()))
+}
+
+/// The kind of a search's answer in words.
+pub fn kind(numbers: &[u32; 17]) -> String {
+    let kinds = ["plan", "none", "spent"];
+    kinds.get(numbers[1] as usize).map_or_else(|| format!("cause {}", numbers[0]), |kind| kind.to_string())
+}
+
 /// Both with buffers that are `more` words longer than asked for.
 fn one(
     tally: &mut Tally,
@@ -97,8 +108,7 @@ fn one(
     more_out: usize,
     name: &dyn Fn() -> String,
 ) -> [u32; 17] {
-    let (words, places) = read_sheet(RULES, bytes)
-        .map_or((1000, 100), |sheet| (sheet.workspace_words(), sheet.m * (sheet.horizon + 1)));
+    let (words, places) = asked(bytes);
     call(tally, lent, bytes, (words + more_work).min(PLENTY), places + more_out, name)
 }
 
@@ -131,10 +141,7 @@ fn call(
     let stays = before.is_none_or(|before| before[..] == lent.work[..words]);
     let past = lent.work[words..words + PAST] == guard;
     let ok = ours == numbers && lent.out == expected && stays && past;
-    let kinds = ["plan", "none", "spent"];
-    let kind =
-        kinds.get(ours[1] as usize).map_or_else(|| format!("cause {}", ours[0]), |kind| kind.to_string());
-    tally.count_on(bytes, ok, kind, || {
+    tally.count_on(bytes, ok, kind(&ours), || {
         format!("{}, {words} and {places} words: {ours:?} for {numbers:?}", name())
     });
     ours

@@ -20,7 +20,7 @@ pub fn run(share: &Share) -> Tally {
             // Any byte of it changed, or the end cut off.
             let mut rng = Rng::new(seed);
             let mut other = bytes.clone();
-            let at = rng.range(0, other.len().min(60).max(1) - 1);
+            let at = rng.range(0, other.len().clamp(1, 60) - 1);
             if let Some(byte) = other.get_mut(at) {
                 *byte = rng.word() as u8;
             }

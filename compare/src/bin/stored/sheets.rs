@@ -1,13 +1,11 @@
 //! `sheet_test`: the cause, the header, the directory's pairs, the starts, of each task the goals as bytes and as places, the number of
 //! free places, the numbers of blocked places and of lanes by direction, and the workspace.
 
+use compare::BEFORE_TASKS;
 use other::sheet::{read_sheet, task_goals, Carrier, Sheet, Task};
 use other::{naive, RULES};
 
 use crate::case::{spaced, word_at, Cases};
-
-/// Pairs before the tasks': grid, starts, and from change 4 on closures.
-const BEFORE_TASKS: usize = 2 + RULES.closures() as usize;
 
 /// The pairs that the reader hands back: those of 12 tasks.
 const MOST_PAIRS: usize = BEFORE_TASKS + 12;
