@@ -179,6 +179,15 @@ pub fn equal_finishes(limit: usize, rng: &mut Rng) -> Vec<u8> {
     Draft { w, h, horizon, limit, grid, starts, tasks, ..Draft::default() }.bytes_under(RULES)
 }
 
+/// A sheet whose search has the least to do for a board of twelve lines and long paths: a carrier stands on every place, and on every
+/// place a task has its only goal.
+pub fn at_goals() -> Vec<u8> {
+    let (w, h, horizon, limit) = (4, 3, 255, 1);
+    let tasks = (0..w * h).rev().map(|place| vec![place]).collect();
+    let (grid, starts) = (vec![0; w * h], (0..w * h).collect());
+    Draft { w, h, horizon, limit, grid, starts, tasks, ..Draft::default() }.bytes_under(RULES)
+}
+
 /// A sheet without a plan: two carriers in a stretch of two places cannot pass each other. All others are free, so that there are
 /// roots without end.
 pub fn stuck(side: usize, horizon: usize, rng: &mut Rng) -> Vec<u8> {

@@ -2,10 +2,10 @@
 
 use std::hint::black_box;
 
-use compare::inputs::{records_against, table, with_limit, Map};
+use compare::inputs::{at_goals, records_against, table, with_limit, Map};
 use other::gen::Rng;
 use other::sheet::{read_sheet, Carrier, Task};
-use other::{assign, check, path, plain, PLENTY, RULES};
+use other::{assign, board, check, path, plain, search, PLENTY, RULES};
 
 use crate::Case;
 
@@ -51,7 +51,15 @@ pub fn all() -> Vec<Named> {
         named("first 1000 assignments in order 12x12, entries to 3", || in_order(3)),
     ];
     cases.extend(searches());
+    cases.extend(boards("gate board", their_board));
     cases
+}
+
+/// This planner's gate board beside its own search of the same sheets, in place of the other planner's board. The second of two calls
+/// on one sheet finds the processor prepared by the first, as both run the search: so there are no ratios of single sheets.
+pub fn boards_beside_searches() -> Vec<Named> {
+    let cases = boards("gate board beside search", our_search).into_iter();
+    cases.map(|(name, case)| named(&name, move || Case { varied: false, ..case() })).collect()
 }
 
 fn named(name: &str, case: impl FnOnce() -> Case + 'static) -> Named {
@@ -173,8 +181,7 @@ fn in_order(most: usize) -> Case {
 /// Whole searches: the other author's kinds of sheet, and the maps of the literature.
 fn searches() -> Vec<Named> {
     let kinds = [("medium", 24), ("full", 12), ("max", 8)].into_iter().map(|(kind, count)| {
-        let sheets = move || (0..count).map(|seed| plain(kind, seed)).collect();
-        named(&format!("search {kind}"), move || whole(sheets()))
+        named(&format!("search {kind}"), move || whole(of_kind(kind, count), our_search, their_search))
     });
     let maps = [
         ("20x20 30%", 20, 30, 0, 100),
@@ -185,29 +192,67 @@ fn searches() -> Vec<Named> {
     ];
     let maps = maps.into_iter().flat_map(|(name, side, blocked, lanes, horizon)| {
         [300, 4096].map(|limit| {
-            let sheets = move || {
-                let mut rng = Rng::new(13);
-                let map = |carriers| Map { side, blocked, lanes, carriers, goals: 2, horizon, limit };
-                (0..12).map(|k| map(10 + k % 3).sheet(&mut rng)).collect()
-            };
-            named(&format!("search {name} K 2, limit {limit}"), move || whole(sheets()))
+            named(&format!("search {name} K 2, limit {limit}"), move || {
+                whole(of_map(side, blocked, lanes, horizon, limit), our_search, their_search)
+            })
         })
     });
     kinds.chain(maps).collect()
 }
 
-fn whole(sheets: Vec<Vec<u8>>) -> Case {
+/// Gate boards beside another call, on sheets whose searches are cheap, so that what a board adds has the greatest share.
+fn boards(name: &str, beside: Call) -> Vec<Named> {
+    vec![
+        named(&format!("{name}, medium"), move || whole(of_kind("medium", 24), our_board, beside)),
+        named(&format!("{name}, 32x32 K 2, limit 4096"), move || {
+            whole(of_map(32, 0, 0, 160, 4096), our_board, beside)
+        }),
+        named(&format!("{name}, 4x3 H 255, all at their goals"), move || {
+            whole(vec![at_goals()], our_board, beside)
+        }),
+    ]
+}
+
+/// Sheets of one of the other author's kinds.
+fn of_kind(kind: &str, count: u64) -> Vec<Vec<u8>> {
+    (0..count).map(|seed| plain(kind, seed)).collect()
+}
+
+/// Twelve sheets of a map, with 10 to 12 carriers.
+fn of_map(side: usize, blocked: usize, lanes: usize, horizon: usize, limit: usize) -> Vec<Vec<u8>> {
+    let mut rng = Rng::new(13);
+    let map = |carriers| Map { side, blocked, lanes, carriers, goals: 2, horizon, limit };
+    (0..12).map(|k| map(10 + k % 3).sheet(&mut rng)).collect()
+}
+
+/// A call that takes sheet, workspace and output.
+type Call = fn(&[u8], &mut [u32], &mut [u16]);
+
+fn our_search(sheet: &[u8], work: &mut [u32], out: &mut [u16]) {
+    black_box(compare::search(sheet, work, out));
+}
+
+fn their_search(sheet: &[u8], work: &mut [u32], out: &mut [u16]) {
+    black_box(search::search(RULES, sheet, work, out));
+}
+
+fn our_board(sheet: &[u8], work: &mut [u32], out: &mut [u16]) {
+    black_box(compare::gate_board(sheet, work, out));
+}
+
+fn their_board(sheet: &[u8], work: &mut [u32], out: &mut [u16]) {
+    black_box(board::gate_board(RULES, sheet, work, out));
+}
+
+/// Two calls on the same sheets, each with buffers of its own.
+fn whole(sheets: Vec<Vec<u8>>, ours: Call, beside: Call) -> Case {
     let same = sheets.clone();
     let (mut work, mut out) = (vec![0; PLENTY], vec![0; 12 * 256]);
     let (mut other_work, mut other_out) = (work.clone(), out.clone());
     Case {
         inputs: sheets.len(),
         varied: true,
-        ours: Box::new(move |k| {
-            black_box(compare::search(&sheets[k], &mut work, &mut out));
-        }),
-        theirs: Box::new(move |k| {
-            black_box(other::search::search(RULES, &same[k], &mut other_work, &mut other_out));
-        }),
+        ours: Box::new(move |k| ours(&sheets[k], &mut work, &mut out)),
+        theirs: Box::new(move |k| beside(&same[k], &mut other_work, &mut other_out)),
     }
 }

@@ -2,7 +2,8 @@
 //! median time of a call of either, and the median, least and greatest of the ratios of the rounds. A ratio below 1 says that
 //! this planner is faster. Buffers are lent as the call before left them. Times are the thread's processor times, so that what
 //! else the machine does weighs less. Of searches, whose inputs differ much, also the median, least and greatest of the ratios of the
-//! inputs. An argument picks the cases whose name has it; `growth` picks what a node of a search costs.
+//! inputs. A table of its own has the gate board beside this planner's own search of the same sheets, so that a ratio of 1 says that
+//! the board adds nothing. An argument picks the cases whose name has it; `growth` picks what a node of a search costs.
 
 mod cases;
 mod clock;
@@ -10,7 +11,7 @@ mod growth;
 
 use std::time::Duration;
 
-/// One call of each planner on the input of a number.
+/// One call of this planner on the input of a number, and the call beside it: the other planner's, but for the board beside a search.
 pub struct Case {
     pub inputs: usize,
     /// The inputs' times differ much.
@@ -26,12 +27,19 @@ const SIDE: Duration = Duration::from_millis(8);
 
 fn main() {
     let wanted = std::env::args().nth(1).unwrap_or_default();
-    println!("{:<40} {:>10} {:>10}  {:>6}", "case", "ours µs", "other µs", "ratio");
-    for (name, case) in cases::all().into_iter().filter(|(name, _)| name.contains(&wanted)) {
-        report(&name, case());
-    }
+    table(["case", "ours µs", "other µs"], cases::all(), &wanted);
+    println!();
+    table(["what the board adds", "board µs", "search µs"], cases::boards_beside_searches(), &wanted);
     if wanted.is_empty() || wanted == "growth" {
         growth::print();
+    }
+}
+
+/// The cases that are wanted, under a header of their own.
+fn table([case, ours, other]: [&str; 3], cases: Vec<cases::Named>, wanted: &str) {
+    println!("{case:<40} {ours:>10} {other:>10}  {:>6}", "ratio");
+    for (name, case) in cases.into_iter().filter(|(name, _)| name.contains(wanted)) {
+        report(&name, case());
     }
 }
 
