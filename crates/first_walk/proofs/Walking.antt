@@ -27,6 +27,7 @@ use Rattle.kernel.proofs.Choice.{lt-or-ge}
 use Rattle.kernel.proofs.OfTask.{first-label-le}
 use Rattle.kernel.proofs.Kernel.{good-back, back-good, follow-trace}
 use Rattle.kernel.proofs.Least.{hind-meets}
+use Rattle.meaning.proofs.Lists.{getD-same}
 use Rattle.bars.specs.Ways.{placeBy, hasBy}
 use Rattle.bars.proofs.Leads.{mem-by, first-by, none-by}
 use Rattle.layers.specs.Fill.{Filled}
@@ -35,11 +36,6 @@ use Rattle.first_walk.specs.declared.Ahead.the-variants.{Shut, To}
 use Rattle.first_walk.specs.declared.Tried.{Tried}
 use Rattle.first_walk.specs.declared.Tried.the-variants.{Found, NoWalk, Unknown}
 use Rattle.first_walk.specs.Walk.{codeOf, Meets, Fails, goesBy, onFrom, Written, Dead, DivedBy, Dived, LedBy, Led, Seen}
-
-zeros : (n x : ℕ) → _≡_ {A = ℕ} (getD (replicate n 0) x 0) 0
-zeros zero x = refl
-zeros (suc n) zero = refl
-zeros (suc n) (suc x) = zeros n x
 
 module _ (d : Sheet) (i : Carrier) (j : Task) (cs : List Constraint) where
   abbrev w : Parts
@@ -144,7 +140,7 @@ module _ (d : Sheet) (i : Carrier) (j : Task) (cs : List Constraint) (end : ℕ)
 
   -- what is remembered
   pub dead-none : Dead d i j cs end (replicate 1024 0)
-  dead-none = record { size = length-replicate {A = ℕ} 1024 0; fails = λ x t u k a b c e. absurd (omega (arith, zeros 1024 x)) }
+  dead-none = record { size = length-replicate {A = ℕ} 1024 0; fails = λ x t u k a b c e. absurd (omega (arith, getD-same {A = ℕ} 0 1024 x)) }
 
   pub dead-more : (dead after : List ℕ) (x t u k : ℕ) → t ≤ end → u < 1024 → k ≤ allGoals d j → allGoals d j ≤ 8 → x < 1024 → Fails d i j cs end t u k
       → Dead d i j cs end dead → after ≡ set dead x (codeOf t u k) → Dead d i j cs end after

@@ -3,7 +3,7 @@ use Prim.Native.Nat.{ℕ, zero, suc, _+_, _*_, _-_, _≤_, _<_, min}
 use mathlib.Core.Path.{_≡_, refl, sym, ap, ap₂, subst, _∙_}
 use mathlib.Core.Bool.{Bool, true, false}
 use mathlib.Core.List.{List, [], _∷_, _++_, append-nil, append-assoc}
-use native.Mathlib.Nat.{zero-add, mul-le-mul, suc-mul, not-suc-le-zero}
+use native.Mathlib.Nat.{zero-add, not-suc-le-zero}
 use native.Mathlib.Numerals.{add-one}
 use native.Mathlib.Omega.{arith}
 use lib.ListN.{length, take, drop, getD, drop-of-length-le, length-drop}
@@ -14,7 +14,7 @@ use Rattle.deck.specs.Lists.{pathOf, countFrom, below, each, pieces}
 use Rattle.deck.specs.Sheet.{Sheet, task}
 use Rattle.deck.specs.Paths.{finishOf}
 use Rattle.deck.specs.Listing.{decimal, text, spaced, carrierLine, carrierLines}
-use Rattle.meaning.proofs.Lists.{piece-at}
+use Rattle.meaning.proofs.Lists.{piece-at, each-take}
 use Rattle.listing.specs.Wrote.{Wrote}
 use Rattle.listing.proofs.Buffers.{wrote-then}
 
@@ -30,17 +30,11 @@ spaced-is x (y ∷ l) =
     ap (λ (k : List ℕ). decimal x ++ k) (append-assoc (text " ") (decimal y) (others (y ∷ l)) ∙ ap (λ (k : List ℕ). text " " ++ k) (spaced-is y l))
     ∙ sym (append-assoc (decimal x) (text " ") (spaced (y ∷ l)))
 
-each-take : (f : ℕ → List ℕ) (l : List ℕ) (t : ℕ) → t < length l → each f (take (suc t) l) ≡ each f (take t l) ++ f (getD l t 0)
-each-take f [] t h = absurd (not-suc-le-zero h)
-each-take f (x ∷ l) zero h = append-nil (f x)
-each-take f (x ∷ l) (suc t) h =
-    ap (λ (k : List ℕ). f x ++ k) (each-take f l t (omega arith)) ∙ sym (append-assoc (f x) (each f (take t l)) (f (getD l t 0)))
-
 others-more : (p : List ℕ) (t : ℕ) → 0 < t → t < length p → others (take (t + 1) p) ≡ others (take t p) ++ (text " " ++ decimal (getD p t 0))
 unfolding others
 others-more [] t z h = absurd (not-suc-le-zero h)
 others-more (x ∷ l) zero z h = absurd (omega arith)
-others-more (x ∷ l) (suc t) z h = rw add-one (each-take (λ y. text " " ++ decimal y) l t (omega arith))
+others-more (x ∷ l) (suc t) z h = rw add-one (each-take (λ y. text " " ++ decimal y) l t 0 (omega arith))
 
 -- the places of a path, one more at a time
 module _ {b : List ℕ} {at : ℕ} {c : List ℕ} {r : ℕ} where
@@ -101,10 +95,6 @@ module _ (d : Sheet) (tasks : List ℕ) (m h : ℕ) (paths : List ℕ) where
       → Wrote b at (carrierLines d tasks (pieces m (suc h) paths)) c r
   unfolding carrierLines
   lines-all i {b} {at} {c} {r} k l q w = let e : i ≡ d .count = omega arith in subst (λ (x : ℕ). Wrote b at (each lineAt (below x)) c r) e w
-
--- the words of twelve carriers for 256 times are few
-pub few-words : (i n : ℕ) → i < 12 → n ≤ 256 → i * n + n ≤ 3072
-few-words i n h k = let e : suc i * n ≤ 12 * 256 = mul-le-mul h k in omega (arith, suc-mul i n)
 
 -- from an index past the end on there is nothing
 drop-past : (l : List ℕ) (n a : ℕ) → a ≡ min n (length l) → drop a l ≡ drop n l

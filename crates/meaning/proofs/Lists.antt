@@ -3,11 +3,11 @@ use Prim.Native.Nat.{ℕ, zero, suc, _+_, _*_, _≤_, _<_}
 use mathlib.Core.Path.{_≡_, refl, sym, ap, subst, _∙_}
 use mathlib.Core.Logic.{_↔_, _⊎_, inl, inr, ⊎-elim}
 use mathlib.Core.Bool.{Bool, true, false, cond}
-use mathlib.Core.List.{List, [], _∷_, _++_, map, List·Memᴰ as Mem, List·Memᴰ·head as here, List·Memᴰ·tail as there, List·Memᴰ·not-nil as not-nil, List·Memᴰ·cases-cons as cases-cons, List·Memᴰ·append-cases as cases-append, Memᴰ·append-left as in-left, Memᴰ·append-right as in-right}
+use mathlib.Core.List.{List, [], _∷_, _++_, map, append-nil, append-assoc, List·Memᴰ as Mem, List·Memᴰ·head as here, List·Memᴰ·tail as there, List·Memᴰ·not-nil as not-nil, List·Memᴰ·cases-cons as cases-cons, List·Memᴰ·append-cases as cases-append, Memᴰ·append-left as in-left, Memᴰ·append-right as in-right}
 use mathlib.Core.Option.{Option, none, some}
-use native.Mathlib.Nat.{not-suc-le-zero, eq-or-lt-of-le, le-trans, le-refl, le-of-lt, le-of-suc-le-suc, suc-mul}
+use native.Mathlib.Nat.{not-suc-le-zero, eq-or-lt-of-le, le-trans, le-refl, le-of-lt, le-of-suc-le-suc, suc-mul, mul-le-mul-right}
 use native.Mathlib.Omega.{arith}
-use lib.ListN.{length, length-map, getD, take, drop, List·getD-append}
+use lib.ListN.{length, length-map, getD, take, drop, replicate, List·getD-append}
 use lib.Seq.{getD-append-add, drop-drop}
 use lib.Dec.{T, leb}
 use borrow.Author.Tests.{leb-true, leb-false}
@@ -124,6 +124,22 @@ piece-at (suc m) n l zero h = let e : 0 * n ≡ 0 = omega arith in rw e
 piece-at (suc m) n l (suc i) h =
     let e : n + i * n ≡ suc i * n = omega (arith, suc-mul i n) in
     piece-at m n (drop n l) i (omega arith) ∙ ap (take n) (drop-drop (i * n) n l ∙ ap (λ k. drop k l) e)
+
+-- and ends within the words of m pieces
+pub piece-inside : (i n m words : ℕ) → i < m → m * n ≤ words → i * n + n ≤ words
+piece-inside i n m words h k = omega (arith, suc-mul i n, mul-le-mul-right n h)
+
+-- the lists of the first elements, one more
+pub each-take : {A B : Type 0} (f : A → List B) (l : List A) (t : ℕ) (d : A) → t < length l → each f (take (suc t) l) ≡ each f (take t l) ++ f (getD l t d)
+each-take f [] t d h = absurd (not-suc-le-zero h)
+each-take f (x ∷ l) zero d h = append-nil (f x)
+each-take f (x ∷ l) (suc t) d h = ap (λ k. f x ++ k) (each-take f l t d (omega arith)) ∙ sym (append-assoc (f x) (each f (take t l)) (f (getD l t d)))
+
+-- one element again and again, read at any index
+pub getD-same : {A : Type 0} (z : A) (n k : ℕ) → getD (replicate n z) k z ≡ z
+getD-same z zero k = refl
+getD-same z (suc n) zero = refl
+getD-same z (suc n) (suc k) = getD-same z n k
 
 module _ {A : Type 0} (R : A → A → Type 0) where
   pub sorted-append : (l r : List A) → Sorted R l → Sorted R r → ((x y : A) → Mem x l → Mem y r → R x y) → Sorted R (l ++ r)
