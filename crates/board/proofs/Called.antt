@@ -3,7 +3,7 @@ use Prim.Native.Nat.{ℕ, zero, suc, _≤_}
 use mathlib.Core.Path.{_≡_, refl, sym, ap, subst, _∙_}
 use mathlib.Core.List.{List}
 use lib.ListN.{length}
-use Rattle.deck.specs.Sheet.{read, cause}
+use Rattle.deck.specs.Sheet.{read, sheetCause}
 use Rattle.deck.specs.Calls.{searchCause, searchAnswerFor, searchAnswer, planWords, SearchCall}
 use Rattle.deck.specs.Numbers.{searchNumbers}
 use Rattle.deck.proofs.Told.{search-answered}
@@ -18,7 +18,7 @@ use Rattle.board_lines.proofs.Standing.{stands, empty}
 use Rattle.board_lines.specs.declared.Line.{Line}
 use Rattle.board.specs.Call.{boardLines, BoardCall, BoardRight, Written}
 
-accepted-written : (s : List ℕ) (out : ℕ) → cause s ≡ 0 → planWords (read s) ≤ out → (k : SearchKind) → Written s out k
+accepted-written : (s : List ℕ) (out : ℕ) → sheetCause s ≡ 0 → planWords (read s) ≤ out → (k : SearchKind) → Written s out k
 accepted-written s out ok words Plan = (ok, words)
 accepted-written s out ok words NoPlan = tt
 accepted-written s out ok words Spent = tt
@@ -33,7 +33,7 @@ answer-written s work out = go (searchCause s work out) refl
     go (suc c) e = tt
 
 -- where the match found a plan
-pub plan-written : (s : List ℕ) (out : ℕ) (k : SearchKind) → k ≡ Plan → Written s out k → (cause s ≡ 0) × (planWords (read s) ≤ out)
+pub plan-written : (s : List ℕ) (out : ℕ) (k : SearchKind) → k ≡ Plan → Written s out k → (sheetCause s ≡ 0) × (planWords (read s) ≤ out)
 plan-written s out k e w = rw e at w
 
 -- the lines by the kind that the match found

@@ -3,7 +3,7 @@ use Prim.Native.Nat.{ℕ, _≤_}
 use mathlib.Core.Path.{_≡_}
 use mathlib.Core.List.{List}
 use lib.ListN.{length}
-use Rattle.deck.specs.Sheet.{Sheet, read, cause}
+use Rattle.deck.specs.Sheet.{Sheet, read, sheetCause}
 use Rattle.deck.specs.Calls.{planWords, searchAnswer, SearchCall}
 use Rattle.deck.specs.declared.SearchKind.{SearchKind}
 use Rattle.deck.specs.declared.SearchKind.the-variants.{Plan, NoPlan, Spent, Refused}
@@ -29,7 +29,7 @@ BoardRight d a words lines = BoardStands d (a .kind) (a .tasks) words lines
 
 -- where the answer says plan, the sheet is accepted, and the output has the words of its paths
 abbrev pub Written : List ℕ → ℕ → SearchKind → Type 0
-Written s out Plan = (cause s ≡ 0) × (planWords (read s) ≤ out)
+Written s out Plan = (sheetCause s ≡ 0) × (planWords (read s) ≤ out)
 Written s out NoPlan = Unit {0}
 Written s out Spent = Unit {0}
 Written s out (Refused c) = Unit {0}

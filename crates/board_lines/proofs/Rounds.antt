@@ -13,4 +13,4 @@ Every (r ∷ rs) = Holds r × Every rs
 
 pub every-board : Every boards
 unfolding insert sortBy words finish planLines linesFor
-every-board = (refl, (refl, (refl, (refl, (refl, (refl, (refl, (refl, tt))))))))
+every-board = (refl, (refl, (refl, (refl, (refl, (refl, (refl, (refl, (refl, tt)))))))))

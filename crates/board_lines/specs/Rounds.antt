@@ -49,4 +49,6 @@ boards =
     ∷ unplanned (crossing 2 1 2 6) NoPlan
     ∷ unplanned (crossing 2 1 2 5) Spent
     ∷ unplanned (crossing 2 1 2 5) (Refused 10)
+    -- a dark house: a plan without a line
+    ∷ planned [] [] [] []
     ∷ []

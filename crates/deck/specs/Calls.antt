@@ -4,7 +4,7 @@
 use Prim.Native.Nat.{ℕ, zero, suc, _+_, _-_, _*_, _/_, _%_, _≤_, _<_}
 use mathlib.Core.Path.{_≡_}
 use mathlib.Core.Logic.{_≢_}
-use mathlib.Core.Bool.{Bool, _&&_}
+use mathlib.Core.Bool.{Bool, cond, _&&_}
 use mathlib.Core.List.{List, [], _++_, map}
 use mathlib.Core.Option.{Option, none, some}
 use lib.ListN.{length, getD, drop, replicate}
@@ -12,12 +12,12 @@ use lib.IntN.{ℤ, pos}
 use lib.Dec.{ltb, leb, eqb}
 use Rattle.deck.specs.Causes.{badNumber, badRecords, badCount, shortWorkspace, wrongLength}
 use Rattle.deck.specs.Lists.{below, within, all, flat, pieces}
-use Rattle.deck.specs.Sheet.{Sheet, Stretch, read, area, mostGoals, carrier, widthOf, heightOf, countOf, horizonOf, limitOf, pairAt, pairsFor, taskStretch, cause, unless, _orElse_}
+use Rattle.deck.specs.Sheet.{Sheet, Stretch, read, area, mostGoals, carrier, widthOf, heightOf, countOf, horizonOf, limitOf, pairAt, pairsFor, taskStretch, sheetCause, unless, _orElse_}
 use Rattle.deck.specs.Paths.{leastPath, finishOf}
 use Rattle.deck.specs.Collisions.{firstCollision}
 use Rattle.deck.specs.Assignments.{leastAssignment, sumOf, Priced}
 use Rattle.deck.specs.Search.{Answer, plan, noPlan, spent}
-use Rattle.deck.specs.Planner.{planFor}
+use Rattle.deck.specs.Planner.{roundOf}
 use Rattle.deck.specs.PlanCheck.{planCheck}
 use Rattle.deck.specs.Numbers.{pathNumbers, assignmentNumbers, searchNumbers}
 use Rattle.deck.specs.declared.Carrier.{Carrier}
@@ -48,9 +48,13 @@ noTasks = replicate 12 255
 unfoldable pub workspaceFor : Sheet → ℕ
 workspaceFor d = 512 * d .limit + suc (d .horizon) * area d * suc (mostGoals d) + 4096
 
+-- "no workspace needed" without carriers
+unfoldable pub workspaceOf : Sheet → ℕ
+workspaceOf d = cond (eqb (d .count) 0) 0 (workspaceFor d)
+
 -- "workspace short"
 abbrev pub workspaceCause : Sheet → ℕ → ℕ
-workspaceCause d work = unless (leb (workspaceFor d) work) shortWorkspace
+workspaceCause d work = unless (leb (workspaceOf d) work) shortWorkspace
 
 -- "output under .. words"
 abbrev pub outputCause : ℕ → ℕ → ℕ
@@ -87,11 +91,11 @@ readingFor (suc c) s =
     record { cause = suc c; width = 0; height = 0; count = 0; horizon = 0; limit = 0; offsets = pairList []; lengths = pairList [] }
 
 unfoldable pub readCall : List ℕ → Reading
-readCall s = readingFor (cause s) s
+readCall s = readingFor (sheetCause s) s
 
 -- A TASK'S GOALS: "hands back that stretch of the sheet itself; on any cause, the empty stretch at the sheet's start"
 unfoldable pub goalsCause : List ℕ → Task → ℕ
-goalsCause s j = cause s orElse unless (ltb (j .0) (countOf s)) badNumber
+goalsCause s j = sheetCause s orElse unless (ltb (j .0) (countOf s)) badNumber
 
 abbrev pub stretchFor : ℕ → Stretch → Stretch
 stretchFor zero r = r
@@ -134,7 +138,7 @@ goodRecords d rs =
 -- by the numbers of words of workspace and output
 unfoldable pub pathCause : List ℕ → Carrier → Task → ℕ → ℕ → List ℕ → ℕ
 pathCause s i j work out rs =
-    cause s
+    sheetCause s
     orElse unless (ltb (i .0) (countOf s) && ltb (j .0) (countOf s)) badNumber
     orElse unless (goodRecords (read s) rs) badRecords
     orElse workspaceCause (read s) work
@@ -212,7 +216,7 @@ collisionCall m h ws = collisionFor (collisionCause m h ws) m h ws
 -- THE SEARCH. By the numbers of words of workspace and output
 unfoldable pub searchCause : List ℕ → ℕ → ℕ → ℕ
 searchCause s work out =
-    cause s
+    sheetCause s
     orElse workspaceCause (read s) work
     orElse outputCause (planWords (read s)) out
 
@@ -229,11 +233,11 @@ searchWritten (noPlan n) out = out
 searchWritten (spent n b) out = out
 
 unfoldable pub searchAnswerFor : ℕ → Sheet → SearchAnswer
-searchAnswerFor zero d = searchFound (planFor d)
+searchAnswerFor zero d = searchFound (roundOf d)
 searchAnswerFor (suc c) d = record { kind = SearchRefused (suc c); tasks = noTasks; flowtime = 0; nodes = 0; bound = 0 }
 
 unfoldable pub searchOutputFor : ℕ → Sheet → List ℕ → List ℕ
-searchOutputFor zero d out = searchWritten (planFor d) out
+searchOutputFor zero d out = searchWritten (roundOf d) out
 searchOutputFor (suc c) d out = out
 
 unfoldable pub searchAnswer : List ℕ → ℕ → ℕ → SearchAnswer
@@ -248,10 +252,12 @@ pub record SearchCall (s work out numbers work′ out′ : List ℕ) : Type 0 wh
   pub written : out′ ≡ searchOutput s (length work) out
   -- used workspace is free after an accepted call
   pub refused-work : searchCause s (length work) (length out) ≢ 0 → work′ ≡ work
+  -- a sheet of no bytes uses none
+  pub dark-work : s ≡ [] → work′ ≡ work
 
 -- THE PLAN CHECK. Of a task list of 12 and paths
 unfoldable pub checkCause : List ℕ → List ℕ → ℕ
-checkCause s ws = cause s orElse unless (eqb (length ws) (planWords (read s))) wrongLength
+checkCause s ws = sheetCause s orElse unless (eqb (length ws) (planWords (read s))) wrongLength
 
 unfoldable pub checkFound : Option ℕ → CheckAnswer
 checkFound none = No

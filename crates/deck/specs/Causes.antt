@@ -3,7 +3,7 @@
 -- Assumes nothing.
 use Prim.Native.Nat.{ℕ}
 
--- CAUSES IN THE SHEET ITSELF. "under 8 bytes"
+-- CAUSES IN THE SHEET ITSELF. "under 8 bytes", by document 02 "one to seven bytes"
 abbrev pub shortSheet : ℕ
 shortSheet = 1
 

@@ -15,4 +15,5 @@ pub mod Rounds
 pub mod Starred
 pub mod Further
 pub mod Lanes
+pub mod Dark
 pub mod Orders

@@ -6,7 +6,7 @@ use mathlib.Core.List.{List, [], _∷_, _++_, map}
 use lib.ListN.{length, take, replicate}
 use Rattle.deck.specs.Lists.{below, each, flat}
 use Rattle.deck.specs.Ranks.{sortBy}
-use Rattle.deck.specs.Sheet.{read, carrier, task, endOfPairs, cause}
+use Rattle.deck.specs.Sheet.{read, carrier, task, endOfPairs, sheetCause}
 use Rattle.deck.specs.Calls.{taskList, noTasks, workspaceFor, planWords, goalsCall, pathCause, pathAnswerFor, pathOutputFor, assignmentCause, leastFor, assignmentKind, assignmentTasks, collisionCall, searchAnswer, searchOutput, checkCall}
 use Rattle.deck.specs.Numbers.{pathNumbers, assignmentNumbers, collisionNumbers, searchNumbers, checkNumbers}
 use Rattle.deck.specs.Listing.{listing}
@@ -33,7 +33,7 @@ pub data Question : Type 0 where
 
 -- the answer in numbers, then the words of output, which held 9 before
 unfoldable pub answered : Question → List ℕ
-answered (askCause s) = cause s ∷ []
+answered (askCause s) = sheetCause s ∷ []
 answered (askGoals s j) = let r = goalsCall s (task j) in r .offset ∷ r .size ∷ []
 answered (askPath s i j work words rs) =
     let c = pathCause s (carrier i) (task j) work words rs in

@@ -190,7 +190,7 @@ abbrev pub _orElse_ : ℕ → ℕ → ℕ
 zero orElse d = d
 (suc c) orElse d = suc c
 
--- 0 for an accepted sheet, and else the number of the first cause that lies in it
+-- of a sheet that has bytes: 0 where it is accepted, and else the number of the first cause that lies in it
 unfoldable pub cause : List ℕ → ℕ
 cause s =
     unless (leb 8 (length s)) shortSheet
@@ -200,3 +200,8 @@ cause s =
     orElse unless (goodStarts (read s)) badStart
     orElse unless (goodGoals (read s)) badGoal
     orElse unless (goodLastGoals (read s)) sharedLastGoal
+
+-- document 02, "A dark house": "a sheet of no bytes" is accepted; "Cause 1 is left for one to seven bytes"
+unfoldable pub sheetCause : List ℕ → ℕ
+sheetCause [] = 0
+sheetCause (b ∷ s) = cause (b ∷ s)

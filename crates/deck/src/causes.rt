@@ -1,7 +1,7 @@
 // The number of each cause of document 01, "When the planner declines", in the order in which they are tried. 0 is no cause. The
 // definitions have the same names and numbers (specs/Causes.antt).
 
-// Under 8 bytes.
+// One to seven bytes.
 pub const SHORT_SHEET: u8 = 1;
 
 // A header byte outside its range.

@@ -7,7 +7,7 @@ use lib.ListN.{length, take}
 use lib.Seq.{take-all}
 use borrow.Author.Tests.{eq-eqb, ne-eqb}
 use Rattle.deck.specs.Lists.{pieces}
-use Rattle.deck.specs.Sheet.{read, cause, countOf, horizonOf}
+use Rattle.deck.specs.Sheet.{read, sheetCause, countOf, horizonOf}
 use Rattle.deck.specs.Listing.{decimal, text, carrierLines, listingFor}
 use Rattle.deck.specs.declared.SearchKind.{SearchKind}
 use Rattle.deck.specs.declared.SearchKind.the-variants.{Plan, NoPlan, Spent, Refused}
@@ -21,18 +21,18 @@ module _ (s : List ℕ) (a : SearchAnswer) (out : List ℕ) where
   -- of an accepted sheet, and of any sheet unless the answer says plan
   pub listed-is : (k : SearchKind) → Listable s k → listed s k a out ≡ listingFor (read s) k a out
   unfolding listed
-  listed-is Plan ok = rw (eq-eqb (cause s) 0 ok)
+  listed-is Plan ok = rw (eq-eqb (sheetCause s) 0 ok)
   listed-is NoPlan ok = refl
   listed-is Spent ok = refl
   listed-is (Refused c) ok = refl
 
   -- no line of a plan where the sheet is not accepted
-  pub plan-none : (b : List ℕ) → (cause s ≡ 0 → ⊥) → Wrote b 0 (listed s Plan a out) b 0
+  pub plan-none : (b : List ℕ) → (sheetCause s ≡ 0 → ⊥) → Wrote b 0 (listed s Plan a out) b 0
   unfolding listed
-  plan-none b bad = rw (ne-eqb (cause s) 0 bad) (wrote-none b 0 (omega arith))
+  plan-none b bad = rw (ne-eqb (sheetCause s) 0 bad) (wrote-none b 0 (omega arith))
 
   -- the first line, then those of the carriers
-  pub plan-all : {b c : List ℕ} {r : ℕ} {e : List ℕ} {o : ℕ} (m h : ℕ) → cause s ≡ 0 → m ≡ countOf s → h ≡ horizonOf s
+  pub plan-all : {b c : List ℕ} {r : ℕ} {e : List ℕ} {o : ℕ} (m h : ℕ) → sheetCause s ≡ 0 → m ≡ countOf s → h ≡ horizonOf s
       → Wrote b 0 (text "plan " ++ decimal (a .flowtime) ++ text " nodes " ++ decimal (a .nodes) ++ text "\n") c r
       → Wrote c r (carrierLines (read s) (a .tasks) (pieces m (suc h) out)) e o → Wrote b 0 (listed s Plan a out) e o
   unfolding listingFor

@@ -10,15 +10,14 @@ use lib.ListN.{length, getD, take, drop, length-append, length-take}
 use lib.Seq.{getD-drop}
 use borrow.Author.Tests.{ltb-true, ltb-false}
 use Rattle.deck.specs.Lists.{pathOf, countFrom, each, pieces}
-use Rattle.deck.specs.Sheet.{Sheet, read, cause, countOf, horizonOf, task}
+use Rattle.deck.specs.Sheet.{Sheet, read, sheetCause, countOf, horizonOf, task}
 use Rattle.deck.specs.Paths.{finishOf}
 use Rattle.deck.specs.Listing.{decimal, text, textFrom, spaced, carrierLine, carrierLines, listingFor}
 use Rattle.deck.specs.declared.SearchKind.{SearchKind}
 use Rattle.deck.specs.declared.SearchKind.the-variants.{Plan, NoPlan, Spent, Refused}
 use Rattle.deck.specs.declared.SearchAnswer.{SearchAnswer}
 use Rattle.meaning.proofs.Finish.{finish-most}
-use Rattle.meaning.proofs.Accepted.{accepted-horizon}
-use Rattle.sheet.proofs.Accepted.{count-range}
+use Rattle.meaning.proofs.Dark.{most-carriers, short-horizon}
 use Rattle.meaning.proofs.Lists.{piece-at}
 use Rattle.listing.specs.Listed.{Listable}
 use Rattle.listing.proofs.Decimals.{one-digit, more-digits}
@@ -81,16 +80,16 @@ pub record Fits (k : SearchKind) (a : SearchAnswer) : Type 0 where
   pub cause : SmallCause k
 
 module _ (s : List ℕ) (a : SearchAnswer) (out : List ℕ) (p : Words out) where
-  lines-size : cause s ≡ 0 → ((i : ℕ) → getD (a .tasks) i 0 < 256) → length (carrierLines (read s) (a .tasks) (pieces (countOf s) (suc (horizonOf s)) out)) ≤ 12 * 1569
+  lines-size : sheetCause s ≡ 0 → ((i : ℕ) → getD (a .tasks) i 0 < 256) → length (carrierLines (read s) (a .tasks) (pieces (countOf s) (suc (horizonOf s)) out)) ≤ 12 * 1569
   unfolding carrierLines
   lines-size ok t =
       let r : length (carrierLines (read s) (a .tasks) (pieces (countOf s) (suc (horizonOf s)) out)) ≤ countOf s * 1569 = each-size (λ i. carrierLine (read s) i (getD (a .tasks) i 0) (pathOf (pieces (countOf s) (suc (horizonOf s)) out) i)) 1569 0 (countOf s) line in
-      omega (arith, count-range s ok)
+      omega (arith, most-carriers s ok)
     where
       line : (i : ℕ) → i < 0 + countOf s → length (carrierLine (read s) i (getD (a .tasks) i 0) (pathOf (pieces (countOf s) (suc (horizonOf s)) out) i)) ≤ 1569
       line i l =
           rw (piece-at (countOf s) (suc (horizonOf s)) out i (omega arith))
-          (line-size (read s) i (getD (a .tasks) i 0) (take (suc (horizonOf s)) (drop (i * suc (horizonOf s)) out)) (omega (arith, count-range s ok)) (t i) (simp length-take (omega (arith, accepted-horizon s ok))) (take-words (suc (horizonOf s)) (drop (i * suc (horizonOf s)) out) (drop-words (i * suc (horizonOf s)) out p)))
+          (line-size (read s) i (getD (a .tasks) i 0) (take (suc (horizonOf s)) (drop (i * suc (horizonOf s)) out)) (omega (arith, most-carriers s ok)) (t i) (simp length-take (omega (arith, short-horizon s ok))) (take-words (suc (horizonOf s)) (drop (i * suc (horizonOf s)) out) (drop-words (i * suc (horizonOf s)) out p)))
 
   -- THE SIZE
   pub listing-size : (k : SearchKind) → Listable s k → Fits k a → length (listingFor (read s) k a out) ≤ 20480

@@ -9,7 +9,7 @@ ghost use mathlib.Core.List.{_∷_, [], _++_};
 ghost use Prim.Native.Nat.{suc, _+_, _%_, _<_, _≤_, min};
 ghost use lib.ListN.{length, take, drop};
 ghost use Rattle.deck.specs.Lists.{pieces};
-ghost use Rattle.deck.specs.Sheet.{read, cause, countOf, horizonOf};
+ghost use Rattle.deck.specs.Sheet.{read, sheetCause, countOf, horizonOf};
 ghost use Rattle.deck.specs.Listing.{decimal, text as bytesOf, spaced, carrierLine, carrierLines, listingFor};
 ghost use Rattle.listing.specs.Wrote.{Wrote};
 ghost use Rattle.listing.specs.Listed.{Listable, listed};
@@ -132,7 +132,7 @@ fn put_carriers(
     text: &mut [u8],
     at: usize,
 ) -> usize
-    requires { ⌜ (cause (now s) ≡ 0) × (m ≡ countOf (now s)) × (h ≡ horizonOf (now s)) × (at ≤ length (now text)) ⌝ }
+    requires { ⌜ (sheetCause (now s) ≡ 0) × (m ≡ countOf (now s)) × (h ≡ horizonOf (now s)) × (at ≤ length (now text)) ⌝ }
     ensures { λ r. ⌜ Wrote (now (text .entry)) at (carrierLines (read (now (s .entry))) tasks (pieces m (suc h) (now (paths .entry)))) (now (text .exit)) r ⌝ }
 {
     let n = h + 1;

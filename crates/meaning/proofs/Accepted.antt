@@ -1,5 +1,6 @@
--- What an accepted sheet gives: a node limit of at least 1, a horizon of at most 255, each stretch of the directory inside the sheet,
--- each carrier's start on the grid, and last goals that differ; and what an accepted search was lent. Assumes nothing.
+-- What a sheet without causes gives: 1 to 12 carriers, a node limit of at least 1, a horizon of at most 255, each stretch of the
+-- directory inside the sheet, each carrier's start on the grid, and last goals that differ; and what an accepted search was lent.
+-- Assumes nothing.
 use Prim.Native.Nat.{ℕ, zero, suc, _+_, _*_, _≤_, _<_}
 use mathlib.Core.Path.{_≡_, refl, sym, ap, _∙_}
 use mathlib.Core.Logic.{_⊎_, inl, inr}
@@ -10,8 +11,8 @@ use native.Mathlib.Omega.{arith}
 use lib.Dec.{T, leb, ltb, eqb, leb→le, ltb→lt, eqb→eq}
 use lib.ListN.{length, getD, length-take, length-drop, length-map, List·getD-map}
 use Rattle.deck.specs.Lists.{below, within, all, distinct, last}
-use Rattle.deck.specs.Sheet.{Stretch, area, gridByte, carrier, task, startOf, lastGoal, byteAt, widthOf, heightOf, countOf, horizonOf, limitOf, part, pairAt, pairsFor, startsPair, directoryEnd, gridStretch, startsStretch, taskStretch, words, read, free, chained, goalsSize, unless, _orElse_, goodHeader, goodDirectory, goodGrid, goodStarts, goodGoals, goodLastGoals, cause}
-use Rattle.deck.specs.Calls.{workspaceFor, workspaceCause, planWords, searchCause}
+use Rattle.deck.specs.Sheet.{Stretch, area, gridByte, carrier, task, startOf, lastGoal, byteAt, widthOf, heightOf, countOf, horizonOf, limitOf, part, pairAt, pairsFor, startsPair, directoryEnd, gridStretch, startsStretch, taskStretch, words, read, free, chained, goalsSize, unless, _orElse_, goodHeader, goodDirectory, goodGrid, goodStarts, goodGoals, goodLastGoals, cause, sheetCause}
+use Rattle.deck.specs.Calls.{workspaceOf, workspaceCause, planWords, searchCause}
 use Rattle.meaning.proofs.Tests.{Says, says-eqb, says-leb, says-and}
 use Rattle.meaning.proofs.Lists.{length-below}
 use Rattle.meaning.proofs.ListTests.{says-all-at, says-distinct}
@@ -121,6 +122,9 @@ length-words zero (a ∷ b ∷ l) e = absurd (omega arith)
 length-words (suc m) (a ∷ b ∷ l) e = ap suc (length-words m l (omega arith))
 
 module _ (s : List ℕ) (ok : cause s ≡ 0) where
+  pub accepted-count : (1 ≤ read s .count) × (read s .count ≤ 12)
+  accepted-count = header-says s .fact (accepted s ok .header) .0 .0 .0 .0 .1
+
   pub accepted-limit : 1 ≤ read s .limit
   accepted-limit = header-says s .fact (accepted s ok .header) .0 .0 .1 .0
 
@@ -159,12 +163,12 @@ module _ (s : List ℕ) (ok : cause s ≡ 0) where
       (List·getD-map (last 0) (read s .tasks) i [] ∙ e ∙ sym (List·getD-map (last 0) (read s .tasks) j []))
 
 -- what the search asks for beyond an accepted sheet
-pub search-accepted : (s : List ℕ) (work out : ℕ) → searchCause s work out ≡ 0 → (cause s ≡ 0) × (workspaceFor (read s) ≤ work) × (planWords (read s) ≤ out)
+pub search-accepted : (s : List ℕ) (work out : ℕ) → searchCause s work out ≡ 0 → (sheetCause s ≡ 0) × (workspaceOf (read s) ≤ work) × (planWords (read s) ≤ out)
 unfolding searchCause
 search-accepted s work out e =
-    let c1 = first-none (cause s) e in
+    let c1 = first-none (sheetCause s) e in
     let c2 = first-none (workspaceCause (read s) work) (c1 .1) in (
       c1 .0,
-      leb→le (workspaceFor (read s)) work (passes-last (leb (workspaceFor (read s)) work) 9 (c2 .0)),
+      leb→le (workspaceOf (read s)) work (passes-last (leb (workspaceOf (read s)) work) 9 (c2 .0)),
       leb→le (planWords (read s)) out (passes-last (leb (planWords (read s)) out) 10 (c2 .1)),
     )

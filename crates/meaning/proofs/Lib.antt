@@ -2,6 +2,7 @@ pub mod Tests
 pub mod Lists
 pub mod ListTests
 pub mod Accepted
+pub mod Dark
 pub mod Before
 pub mod Ranks
 pub mod Walks

@@ -6,12 +6,13 @@ use native.Mathlib.Omega.{arith}
 use lib.ListN.{length, getD, take, drop}
 use lib.Seq.{take-at, drop-at}
 use Rattle.deck.specs.Lists.{flat, pieces}
-use Rattle.deck.specs.Sheet.{Sheet, read}
+use Rattle.deck.specs.Sheet.{Sheet, read, sheetCause}
 use Rattle.deck.specs.Search.{Answer, plan, noPlan, spent}
-use Rattle.deck.specs.Planner.{planFor}
+use Rattle.deck.specs.Planner.{planFor, roundOf}
 use Rattle.deck.specs.Calls.{taskList, searchCause, searchFound, searchWritten, searchAnswerFor, searchOutputFor, searchAnswer, searchOutput}
 use Rattle.meaning.specs.Meaning.{Plan, Right}
 use Rattle.meaning.proofs.Accepted.{search-accepted}
+use Rattle.meaning.proofs.Dark.{round-has, empty-right}
 use Rattle.optimal.specs.Demand.{RightCall}
 use Rattle.optimal.proofs.Demand3.{demand3}
 
@@ -44,11 +45,16 @@ right-found d out (plan a ps f n b) ((fs, p, e), same, least) = (
 right-found d out (noPlan n) h = h
 right-found d out (spent n b) h = h
 
+-- the round of every accepted sheet is right
+pub round-right : (s : List ℕ) → sheetCause s ≡ 0 → Right (read s) (roundOf (read s))
+unfolding roundOf
+round-right s ok = round-has (Right (read s)) s (planFor (read s)) ok (empty-right (read s)) (demand3 s)
+
 -- Demand 3, of every input
 pub call-right : (s : List ℕ) (work : ℕ) (out : List ℕ) → RightCall (read s) (searchAnswer s work (length out)) (searchOutput s work out)
 unfolding searchAnswer searchOutput searchAnswerFor searchOutputFor
 call-right s work out = go (searchCause s work (length out)) refl
   where
     go : (c : ℕ) → searchCause s work (length out) ≡ c → RightCall (read s) (searchAnswerFor c (read s)) (searchOutputFor c (read s) out)
-    go zero e = right-found (read s) out (planFor (read s)) (demand3 s (search-accepted s work (length out) e .0))
+    go zero e = right-found (read s) out (roundOf (read s)) (round-right s (search-accepted s work (length out) e .0))
     go (suc c) e = tt

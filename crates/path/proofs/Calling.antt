@@ -10,9 +10,9 @@ use lib.ListN.{length, drop}
 use lib.Seq.{take-at}
 use lib.Dec.{T, leb, ltb, leb→le, ltb→lt}
 use Rattle.deck.specs.Causes.{badNumber, badRecords}
-use Rattle.deck.specs.Sheet.{read, countOf, horizonOf, cause, unless}
+use Rattle.deck.specs.Sheet.{read, countOf, horizonOf, cause, sheetCause, unless}
 use Rattle.deck.specs.Paths.{leastPath}
-use Rattle.deck.specs.Calls.{constraintsOf, goodRecords, workspaceFor, workspaceCause, pathFound, pathWritten, pathCause, pathAnswerFor, pathOutputFor, PathCall}
+use Rattle.deck.specs.Calls.{constraintsOf, goodRecords, workspaceFor, workspaceOf, workspaceCause, pathFound, pathWritten, pathCause, pathAnswerFor, pathOutputFor, PathCall}
 use Rattle.deck.specs.Numbers.{pathNumbers}
 use Rattle.deck.specs.declared.Carrier.{Carrier}
 use Rattle.deck.specs.declared.Task.{Task}
@@ -20,6 +20,7 @@ use Rattle.deck.specs.declared.Constraint.{Constraint}
 use Rattle.deck.specs.declared.PathAnswer.{PathAnswer}
 use Rattle.deck.specs.declared.PathAnswer.the-variants.{Refused}
 use Rattle.meaning.proofs.Accepted.{first-none, passes-last, accepted-start}
+use Rattle.meaning.proofs.Dark.{with-carriers, workspace-with}
 use Rattle.meaning.proofs.LeastPath.{LeastMeant, least-path-meant}
 use Rattle.kernel.proofs.Both.{and-left, and-right}
 use Rattle.bars.specs.Padded.{MaskOf}
@@ -40,17 +41,19 @@ module _ (s : List ℕ) (i : Carrier) (j : Task) (work out : ℕ) (rs : List ℕ
   pub no-cause : NoCause
   unfolding pathCause
   no-cause =
-      let c1 = first-none (cause s) ok in
+      let c1 = first-none (sheetCause s) ok in
       let c2 = first-none (unless (ltb (i .0) (countOf s) && ltb (j .0) (countOf s)) badNumber) (c1 .1) in
       let c3 = first-none (unless (goodRecords (read s) rs) badRecords) (c2 .1) in
       let c4 = first-none (workspaceCause (read s) work) (c3 .1) in
       let b = passes-last (ltb (i .0) (countOf s) && ltb (j .0) (countOf s)) 7 (c2 .0) in
+      let l = ltb→lt (i .0) (countOf s) (and-left (ltb (i .0) (countOf s)) (ltb (j .0) (countOf s)) b) in
+      let some : 0 < countOf s = omega arith in
       record {
-        accepted = c1 .0;
-        carrier-in = ltb→lt (i .0) (countOf s) (and-left (ltb (i .0) (countOf s)) (ltb (j .0) (countOf s)) b);
+        accepted = with-carriers s (c1 .0) some;
+        carrier-in = l;
         task-in = ltb→lt (j .0) (countOf s) (and-right (ltb (i .0) (countOf s)) (ltb (j .0) (countOf s)) b);
         records = passes-last (goodRecords (read s) rs) 8 (c3 .0);
-        room = leb→le (workspaceFor (read s)) work (passes-last (leb (workspaceFor (read s)) work) 9 (c4 .0));
+        room = rw (← workspace-with (read s) some) (leb→le (workspaceOf (read s)) work (passes-last (leb (workspaceOf (read s)) work) 9 (c4 .0)));
         long = leb→le (suc (horizonOf s)) out (passes-last (leb (suc (horizonOf s)) out) 10 (c4 .1));
       }
 

@@ -9,8 +9,8 @@ use lib.Dec.{T, leb, ltb}
 use borrow.Author.Tests.{eq-eqb, ne-eqb, le-leb, lt-leb, lt-ltb, le-ltb}
 use Rattle.deck.specs.Lists.{below, all}
 use Rattle.deck.specs.Causes.{badNumber, badRecords, shortWorkspace, wrongLength}
-use Rattle.deck.specs.Sheet.{Sheet, read, area, countOf, horizonOf, cause, unless, _orElse_}
-use Rattle.deck.specs.Calls.{recordWord, goodTail, goodRecord, goodRecords, workspaceFor, workspaceCause, outputCause, pathCause}
+use Rattle.deck.specs.Sheet.{Sheet, read, area, countOf, horizonOf, sheetCause, unless, _orElse_}
+use Rattle.deck.specs.Calls.{recordWord, goodTail, goodRecord, goodRecords, workspaceOf, workspaceCause, outputCause, pathCause}
 use Rattle.deck.specs.declared.Carrier.{Carrier}
 use Rattle.deck.specs.declared.Task.{Task}
 use Rattle.meaning.proofs.Tests.{Says, is-true, is-false}
@@ -88,15 +88,15 @@ module _ (d : Sheet) (rs : List ℕ) where
 
 -- The causes in order
 module _ (s : List ℕ) (i : Carrier) (j : Task) (work out : ℕ) (rs : List ℕ) where
-  pub cause-first : (c : ℕ) → c ≡ cause s → c ≢ 0 → c ≡ pathCause s i j work out rs
+  pub cause-first : (c : ℕ) → c ≡ sheetCause s → c ≢ 0 → c ≡ pathCause s i j work out rs
   unfolding pathCause
   cause-first c e n = go c e n
     where
-      go : (c : ℕ) → c ≡ cause s → c ≢ 0 → c ≡ (cause s orElse (unless (ltb (i .0) (countOf s) && ltb (j .0) (countOf s)) badNumber orElse (unless (goodRecords (read s) rs) badRecords orElse (workspaceCause (read s) work orElse outputCause (suc (horizonOf s)) out))))
+      go : (c : ℕ) → c ≡ sheetCause s → c ≢ 0 → c ≡ (sheetCause s orElse (unless (ltb (i .0) (countOf s) && ltb (j .0) (countOf s)) badNumber orElse (unless (goodRecords (read s) rs) badRecords orElse (workspaceCause (read s) work orElse outputCause (suc (horizonOf s)) out))))
       go zero e n = absurd (n refl)
       go (suc c) e n = rw (← e) refl
 
-  module _ (ok : cause s ≡ 0) where
+  module _ (ok : sheetCause s ≡ 0) where
     pub cause-carrier : countOf s ≤ i .0 → badNumber ≡ pathCause s i j work out rs
     unfolding pathCause
     cause-carrier h = rw (ok, le-ltb (i .0) (countOf s) h) refl
@@ -112,15 +112,15 @@ module _ (s : List ℕ) (i : Carrier) (j : Task) (work out : ℕ) (rs : List ℕ
         cause-records h = rw (ok, lt-ltb (i .0) (countOf s) a, lt-ltb (j .0) (countOf s) b, h) refl
 
         module _ (c : goodRecords (read s) rs ≡ true) where
-          pub cause-work : work < workspaceFor (read s) → shortWorkspace ≡ pathCause s i j work out rs
+          pub cause-work : work < workspaceOf (read s) → shortWorkspace ≡ pathCause s i j work out rs
           unfolding pathCause
-          cause-work h = rw (ok, lt-ltb (i .0) (countOf s) a, lt-ltb (j .0) (countOf s) b, c, lt-leb (workspaceFor (read s)) work h) refl
+          cause-work h = rw (ok, lt-ltb (i .0) (countOf s) a, lt-ltb (j .0) (countOf s) b, c, lt-leb (workspaceOf (read s)) work h) refl
 
-          module _ (e : workspaceFor (read s) ≤ work) where
+          module _ (e : workspaceOf (read s) ≤ work) where
             pub cause-out : out < suc (horizonOf s) → wrongLength ≡ pathCause s i j work out rs
             unfolding pathCause
-            cause-out h = rw (ok, lt-ltb (i .0) (countOf s) a, lt-ltb (j .0) (countOf s) b, c, le-leb (workspaceFor (read s)) work e, lt-leb (suc (horizonOf s)) out h) refl
+            cause-out h = rw (ok, lt-ltb (i .0) (countOf s) a, lt-ltb (j .0) (countOf s) b, c, le-leb (workspaceOf (read s)) work e, lt-leb (suc (horizonOf s)) out h) refl
 
             pub cause-none : suc (horizonOf s) ≤ out → 0 ≡ pathCause s i j work out rs
             unfolding pathCause
-            cause-none h = rw (ok, lt-ltb (i .0) (countOf s) a, lt-ltb (j .0) (countOf s) b, c, le-leb (workspaceFor (read s)) work e, le-leb (suc (horizonOf s)) out h) refl
+            cause-none h = rw (ok, lt-ltb (i .0) (countOf s) a, lt-ltb (j .0) (countOf s) b, c, le-leb (workspaceOf (read s)) work e, le-leb (suc (horizonOf s)) out h) refl

@@ -3,7 +3,8 @@
 // both before the call), the sheet, and the records. A line has the answer, and the output's words up to the last that was changed.
 // The cases are grids of one row, of one column and of other shapes up to 32 by 32, tasks of 1 to 8 goals (starts on goals, equal goals in
 // succession), lists of 0 to 4097 records that bar the least path so far or are another carrier's, waits and places barred on the last
-// goal up to the horizon, sheets without a path, and each cause alone and with later ones.
+// goal up to the horizon, sheets without a path, each cause alone and with later ones, and the sheet of no bytes with records, workspace
+// and output of several lengths.
 use deck::Carrier;
 use deck::PathAnswer;
 use deck::Task;

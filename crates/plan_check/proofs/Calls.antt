@@ -10,7 +10,7 @@ use lib.Dec.{eqb}
 use borrow.Author.Tests.{eq-eqb, ne-eqb, eqb-true}
 use Rattle.deck.specs.Causes.{wrongLength}
 use Rattle.deck.specs.Lists.{all, isNil, pieces}
-use Rattle.deck.specs.Sheet.{read, cause, widthOf, countOf, horizonOf, unless, _orElse_}
+use Rattle.deck.specs.Sheet.{read, sheetCause, widthOf, countOf, horizonOf, unless, _orElse_}
 use Rattle.deck.specs.Collisions.{collisions}
 use Rattle.deck.specs.Search.{flowtime}
 use Rattle.deck.specs.Planner.{problem}
@@ -24,7 +24,7 @@ use Rattle.plan_check.specs.Answers.{flowAnswer}
 use Rattle.plan_check.specs.Meant.{PlanFor, Meant}
 
 -- the reading
-module _ (s : List ℕ) (ok : cause s ≡ 0) where
+module _ (s : List ℕ) (ok : sheetCause s ≡ 0) where
   pub read-width : readCall s .width ≡ widthOf s
   unfolding readCall readingFor
   read-width = rw ok
@@ -84,15 +84,15 @@ module _ (s tasks ws : List ℕ) where
   flow = flowtime (problem (read s)) a ps
 
   -- the definition's answer is the one that is meant
-  meant : Meant s tasks ws (checkCall s tasks ws)
+  pub meant : Meant s tasks ws (checkCall s tasks ws)
   unfolding checkCall checkCause checkFor checkFound
-  meant f = (λ e. yes-plan (cause s) refl (eqb (length ws) (planWords (read s))) refl e, plan-yes)
+  meant f = (λ e. yes-plan (sheetCause s) refl (eqb (length ws) (planWords (read s))) refl e, plan-yes)
     where
       found-yes : (o : Option ℕ) → checkFound o ≡ Yes f → o ≡ some f
       found-yes none e = let z : _≡_ {A = ℕ} 0 1 = cc in absurd (omega arith)
       found-yes (some g) e = cc
 
-      yes-plan : (c : ℕ) → cause s ≡ c → (b : Bool) → eqb (length ws) (planWords (read s)) ≡ b
+      yes-plan : (c : ℕ) → sheetCause s ≡ c → (b : Bool) → eqb (length ws) (planWords (read s)) ≡ b
           → checkFor (c orElse unless b wrongLength) (read s) tasks ws ≡ Yes f → PlanFor s tasks ws f
       yes-plan (suc c) q b k e = let z : _≡_ {A = ℕ} 0 1 = cc in absurd (omega arith)
       yes-plan zero q false k e = let z : _≡_ {A = ℕ} 0 1 = cc in absurd (omega arith)
@@ -100,7 +100,7 @@ module _ (s tasks ws : List ℕ) where
           let p = plan-check-meant (read s) tasks ps f .0 (found-yes (planCheck (read s) tasks ps) e) in
           record { accepted = q; exact = eqb-true (length ws) (planWords (read s)) k; rest = p .0; finishes = p .1 .0; plan = p .1 .1; flowtime = p .1 .2 }
 
-      plan-yes : PlanFor s tasks ws f → checkFor (cause s orElse unless (eqb (length ws) (planWords (read s))) wrongLength) (read s) tasks ws ≡ Yes f
+      plan-yes : PlanFor s tasks ws f → checkFor (sheetCause s orElse unless (eqb (length ws) (planWords (read s))) wrongLength) (read s) tasks ws ≡ Yes f
       plan-yes p =
           rw (p .accepted, eq-eqb (length ws) (planWords (read s)) (p .exact))
           (ap checkFound (plan-check-meant (read s) tasks ps f .1 (p .rest, (p .finishes, p .plan, p .flowtime))))
@@ -112,7 +112,7 @@ module _ (s tasks ws : List ℕ) where
   ensured : (r : CheckAnswer) → r ≡ checkCall s tasks ws → Ensured r
   ensured r e = (ap checkNumbers e, subst (Meant s tasks ws) (sym e) meant)
 
-  pub sheet-refused : (c : ℕ) → c ≡ cause s → (c ≡ 0 → ⊥) → Ensured (Refused c)
+  pub sheet-refused : (c : ℕ) → c ≡ sheetCause s → (c ≡ 0 → ⊥) → Ensured (Refused c)
   unfolding checkCall checkCause checkFor
   sheet-refused c e n = ensured (Refused c) (rw (← e) (go c n))
     where
@@ -120,7 +120,7 @@ module _ (s tasks ws : List ℕ) where
       go zero n = absurd (n refl)
       go (suc c) n = refl
 
-  module _ (ok : cause s ≡ 0) where
+  module _ (ok : sheetCause s ≡ 0) where
     pub length-refused : (length ws ≡ planWords (read s) → ⊥) → Ensured (Refused wrongLength)
     unfolding checkCall checkCause checkFor
     length-refused n = ensured (Refused wrongLength) (rw (ok, ne-eqb (length ws) (planWords (read s)) n))

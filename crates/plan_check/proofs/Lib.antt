@@ -1,3 +1,4 @@
 pub mod TaskLists
 pub mod Flow
 pub mod Calls
+pub mod Dark

@@ -5,7 +5,7 @@ use mathlib.Core.Logic.{_↔_}
 use mathlib.Core.List.{List}
 use lib.ListN.{length, take}
 use Rattle.deck.specs.Lists.{_at_, sum, pieces}
-use Rattle.deck.specs.Sheet.{read, cause, countOf, horizonOf}
+use Rattle.deck.specs.Sheet.{read, sheetCause, countOf, horizonOf}
 use Rattle.deck.specs.Calls.{planWords}
 use Rattle.deck.specs.declared.CheckAnswer.{CheckAnswer}
 use Rattle.deck.specs.declared.CheckAnswer.the-variants.{Yes}
@@ -14,7 +14,7 @@ use Rattle.meaning.specs.Meaning.{Plan}
 -- the sheet is accepted, the words are as many as a plan has, 255 follows the first m tasks, and these with the words, carrier by
 -- carrier, are a plan with the flowtime f
 pub record PlanFor (s tasks ws : List ℕ) (f : ℕ) : Type 0 where
-  pub accepted : cause s ≡ 0
+  pub accepted : sheetCause s ≡ 0
   pub exact : length ws ≡ planWords (read s)
   pub rest : (k : ℕ) → countOf s ≤ k → k < length tasks → tasks at k ≡ 255
   pub finishes : List ℕ

@@ -10,7 +10,7 @@ ghost use mathlib.Core.Path.{_≡_};
 ghost use Prim.Native.Nat.{suc, _*_, _<_, _≤_};
 ghost use lib.ListN.{length, take};
 ghost use Rattle.deck.specs.Lists.{isNil, pieces};
-ghost use Rattle.deck.specs.Sheet.{read, cause, widthOf, countOf, horizonOf};
+ghost use Rattle.deck.specs.Sheet.{read, sheetCause, widthOf, countOf, horizonOf};
 ghost use Rattle.deck.specs.Collisions.{collisions};
 ghost use Rattle.deck.specs.Calls.{checkCall};
 ghost use Rattle.deck.specs.Numbers.{checkNumbers};
@@ -31,7 +31,7 @@ fn apart(m: usize, h: usize, paths: &[u16]) -> bool
 
 // Yes with the flowtime if each carrier's words are a path for its task.
 fn flowtime(s: &[u8], w: usize, m: usize, h: usize, tasks: [u8; 12], paths: &[u16]) -> CheckAnswer
-    requires { ⌜ (cause (now s) ≡ 0) × (w ≡ widthOf (now s)) × (m ≡ countOf (now s)) × (h ≡ horizonOf (now s)) × (length (now paths) ≡ m * suc h) ⌝ }
+    requires { ⌜ (sheetCause (now s) ≡ 0) × (w ≡ widthOf (now s)) × (m ≡ countOf (now s)) × (h ≡ horizonOf (now s)) × (length (now paths) ≡ m * suc h) ⌝ }
     ensures { λ r. ⌜ r ≡ flowAnswer (read (now (s .entry))) (take m tasks) (pieces m (suc h) (now (paths .entry))) ⌝ }
 {
     let n = h + 1;

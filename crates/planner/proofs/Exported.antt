@@ -6,8 +6,8 @@ use mathlib.Core.List.{List, [], _∷_}
 use lib.ListN.{length}
 use lib.IntN.{ℤ}
 use borrow.Author.Tests.{lt-ltb, le-ltb}
-use Rattle.deck.specs.Sheet.{Stretch, read, cause, task, countOf, pairAt, taskPair, _orElse_}
-use Rattle.deck.specs.Calls.{workspaceFor, goalsCause, goalsCall, stretchFor, PathCall, AssignmentCall, searchAnswer, SearchCall}
+use Rattle.deck.specs.Sheet.{Stretch, read, sheetCause, task, countOf, pairAt, taskPair, _orElse_}
+use Rattle.deck.specs.Calls.{workspaceOf, goalsCause, goalsCall, stretchFor, PathCall, AssignmentCall, searchAnswer, SearchCall}
 use Rattle.deck.specs.Numbers.{pathNumbers, assignmentNumbers, searchNumbers}
 use Rattle.deck.proofs.Told.{path-answered, assignment-answered, search-answered}
 use Rattle.deck.specs.declared.Carrier.{Carrier}
@@ -31,32 +31,32 @@ use Rattle.board.proofs.Called.{call-written}
 use Rattle.planner.proofs.Sizes.{path-small, assignment-small, search-small, board-small}
 
 -- THE SHEET
-pub wanted : {n : ℕ} (s : List ℕ) → cause s ≡ 0 → n ≡ workspaceFor (read s) → n ≡ workspaceWanted (cause s) (read s)
+pub wanted : {n : ℕ} (s : List ℕ) → sheetCause s ≡ 0 → n ≡ workspaceOf (read s) → n ≡ workspaceWanted (sheetCause s) (read s)
 unfolding workspaceWanted
 wanted s e f = rw e f
 
-pub not-wanted : (s : List ℕ) → cause s ≢ 0 → 0 ≡ workspaceWanted (cause s) (read s)
+pub not-wanted : (s : List ℕ) → sheetCause s ≢ 0 → 0 ≡ workspaceWanted (sheetCause s) (read s)
 unfolding workspaceWanted
-not-wanted s n = go (cause s) n
+not-wanted s n = go (sheetCause s) n
   where
     go : (c : ℕ) → c ≢ 0 → 0 ≡ workspaceWanted c (read s)
     go zero m = absurd (m refl)
     go (suc c) m = refl
 
 -- where the goals of a task stand
-pub goals-refused : (s : List ℕ) (j : ℕ) → cause s ≢ 0 → (0 ∷ 0 ∷ []) ≡ stretchNumbers (goalsCall s (task j))
+pub goals-refused : (s : List ℕ) (j : ℕ) → sheetCause s ≢ 0 → (0 ∷ 0 ∷ []) ≡ stretchNumbers (goalsCall s (task j))
 unfolding goalsCall goalsCause
-goals-refused s j n = go (cause s) _ _ n
+goals-refused s j n = go (sheetCause s) _ _ n
   where
     go : (c d : ℕ) (r : Stretch) → c ≢ 0 → (0 ∷ 0 ∷ []) ≡ stretchNumbers (stretchFor (c orElse d) r)
     go zero d r m = absurd (m refl)
     go (suc c) d r m = refl
 
-pub goals-of-none : (s : List ℕ) (j : ℕ) → cause s ≡ 0 → countOf s ≤ j → (0 ∷ 0 ∷ []) ≡ stretchNumbers (goalsCall s (task j))
+pub goals-of-none : (s : List ℕ) (j : ℕ) → sheetCause s ≡ 0 → countOf s ≤ j → (0 ∷ 0 ∷ []) ≡ stretchNumbers (goalsCall s (task j))
 unfolding goalsCall goalsCause
 goals-of-none s j e h = rw (e, le-ltb j (countOf s) h)
 
-pub goals-at : {a b : ℕ} (s : List ℕ) (j : ℕ) → cause s ≡ 0 → j < countOf s → a ≡ pairAt s (taskPair j) .offset → b ≡ pairAt s (taskPair j) .size
+pub goals-at : {a b : ℕ} (s : List ℕ) (j : ℕ) → sheetCause s ≡ 0 → j < countOf s → a ≡ pairAt s (taskPair j) .offset → b ≡ pairAt s (taskPair j) .size
     → (a ∷ b ∷ []) ≡ stretchNumbers (goalsCall s (task j))
 unfolding goalsCall goalsCause
 goals-at s j e h p q = rw (e, lt-ltb j (countOf s) h, p, q)

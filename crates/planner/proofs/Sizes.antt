@@ -11,11 +11,11 @@ use native.Mathlib.Omega.{arith}
 use lib.ListN.{length, getD}
 use lib.Dec.{leb}
 use Rattle.deck.specs.Lists.{below, sum, pieces}
-use Rattle.deck.specs.Sheet.{Sheet, read, cause, area, task, countOf, horizonOf, startOf}
+use Rattle.deck.specs.Sheet.{Sheet, read, cause, sheetCause, area, task, countOf, horizonOf, startOf}
 use Rattle.deck.specs.Paths.{leastPath, finishOf}
 use Rattle.deck.specs.Assignments.{leastAssignment, sumOf, entries, barred}
 use Rattle.deck.specs.Search.{Node, State, Selected, Turn, done, more, Answer, plan, noPlan, spent, cheapest, toMake, extend, expand, turnWith, turn, onward, run, searchFrom, searched}
-use Rattle.deck.specs.Planner.{problem, answerOr, planFor}
+use Rattle.deck.specs.Planner.{problem, answerOr, planFor, roundOf}
 use Rattle.deck.specs.Calls.{constraintsOf, pathCause, pathFound, pathAnswerFor, assignmentCause, leastFor, assignmentKind, searchCause, searchFound, searchAnswerFor, searchAnswer, checkCause, checkFound, checkFor, checkCall}
 use Rattle.deck.specs.PlanCheck.{planCheck}
 use Rattle.deck.specs.declared.Constraint.{Constraint}
@@ -31,7 +31,8 @@ use Rattle.deck.specs.declared.CheckAnswer.the-variants.{Yes, No, Refused as Ch
 use Rattle.meaning.specs.Meaning.{_at_}
 use Rattle.meaning.proofs.Lists.{length-below, getD-below}
 use Rattle.meaning.proofs.LeastPath.{LeastMeant, least-path-meant}
-use Rattle.meaning.proofs.Accepted.{accepted, header-says, search-accepted, accepted-limit, accepted-horizon, accepted-start}
+use Rattle.meaning.proofs.Accepted.{accepted, header-says, search-accepted, accepted-count, accepted-limit, accepted-horizon, accepted-start}
+use Rattle.meaning.proofs.Dark.{most-carriers, short-horizon, with-carriers, round-has}
 use Rattle.meaning.proofs.Assignments.{Least, least-assignment, entries-length, entries-at}
 use Rattle.optimal.specs.Plans.{Laws}
 use Rattle.optimal.specs.Nodes.{IsNode}
@@ -147,12 +148,12 @@ module _ (s tasks ws : List ℕ) where
   flow-small f p = omega (arith, p .flowtime, sum-small (p .finishes) few finish)
     where
       few : length (p .finishes) ≤ 12
-      few = omega (arith, p .plan .a-finish-each, header-says s .fact (accepted s (p .accepted) .header) .0 .0 .0 .0 .1 .1)
+      few = omega (arith, p .plan .a-finish-each, most-carriers s (p .accepted))
 
       finish : (i : ℕ) → i < length (p .finishes) → p .finishes at i ≤ 65535
       finish i h =
           let l : i < countOf s = omega (arith, p .plan .a-finish-each) in
-          omega (arith, p .plan .paths i l .finishes .rests .0, accepted-horizon s (p .accepted))
+          omega (arith, p .plan .paths i l .finishes .rests .0, short-horizon s (p .accepted))
 
   -- a refusal has a cause
   has-cause : (c n : ℕ) → CheckRefused c ≡ checkFor n (read s) tasks ws → 0 < c
@@ -206,7 +207,7 @@ module _ (s : List ℕ) (ok : cause s ≡ 0) where
       finish-at i = finishOf d (task (n .tasks at i)) (getD (n .paths) i [])
 
       few : length (map finish-at (below (d .count))) ≤ 12
-      few = omega (arith, length-below (d .count) finish-at, header-says s .fact (accepted s ok .header) .0 .0 .0 .0 .1 .1)
+      few = omega (arith, length-below (d .count) finish-at, accepted-count s ok)
 
       finish : (i : ℕ) → i < length (map finish-at (below (d .count))) → map finish-at (below (d .count)) at i ≤ 65535
       finish i h =
@@ -263,6 +264,10 @@ module _ (s : List ℕ) (ok : cause s ≡ 0) where
       go none h = omega arith
       go (some a) h = h
 
+round-small : (s : List ℕ) → sheetCause s ≡ 0 → SmallAnswer (roundOf (read s))
+unfolding roundOf
+round-small s ok = round-has SmallAnswer s (planFor (read s)) ok (λ none. (omega arith, omega arith, omega arith)) (plan-small s)
+
 found-small : (a : Answer (List ℕ)) → SmallAnswer a → SmallSearch (searchFound a)
 unfolding searchFound
 found-small (plan a ps f n b) h = h
@@ -274,7 +279,7 @@ unfolding searchAnswer searchAnswerFor
 search-small s work out = go (searchCause s work out) refl
   where
     go : (c : ℕ) → searchCause s work out ≡ c → SmallSearch (searchAnswerFor c (read s))
-    go zero e = found-small (planFor (read s)) (plan-small s (search-accepted s work out e .0))
+    go zero e = found-small (roundOf (read s)) (round-small s (search-accepted s work out e .0))
     go (suc c) e = (omega arith, omega arith, omega arith)
 
 -- THE GATE BOARD: a place of the grid, numbers below m, and a finish of at most the horizon
@@ -285,17 +290,18 @@ pub board-small : (s tasks words : List ℕ) (ls : List Line) (out : ℕ) (k : S
 board-small s tasks words ls out Plan w h k = go (decLe (read s .count) k)
   where
     few : read s .count ≤ 12
-    few = header-says s .fact (accepted s (w .0) .header) .0 .0 .0 .0 .1 .1
+    few = most-carriers s (w .0)
 
     go : Dec (read s .count ≤ k) → SmallLine (lineAt ls k)
     go (yes b) = rw (h .rest k b) no-line-small
     go (no b) =
         let l : k < read s .count = omega arith in
+        let ok = with-carriers s (w .0) (omega arith) in
         let c = h .carriers k l in (
-          omega (arith, h .goals k l, last-goal-on-grid s (w .0) (lineAt ls k .task), area-range s (w .0)),
+          omega (arith, h .goals k l, last-goal-on-grid s ok (lineAt ls k .task), area-range s ok),
           omega (arith, c .0, few),
           omega (arith, c .1, few),
-          omega (arith, h .finishes k l .finishes .rests .0, accepted-horizon s (w .0)),
+          omega (arith, h .finishes k l .finishes .rests .0, accepted-horizon s ok),
         )
 board-small s tasks words ls out NoPlan w h k = rw (h k) no-line-small
 board-small s tasks words ls out Spent w h k = rw (h k) no-line-small

@@ -7,7 +7,7 @@ use mathlib.Core.List.{List, [], _∷_}
 use lib.ListN.{length}
 use lib.IntN.{ℤ}
 use Rattle.deck.specs.Sheet.{Sheet, Stretch, read}
-use Rattle.deck.specs.Calls.{workspaceFor, pathCause, pathAnswerFor, PathCall, assignmentCause, leastFor, assignmentKind, AssignmentCall, overwrite, searchAnswer, SearchCall}
+use Rattle.deck.specs.Calls.{workspaceOf, pathCause, pathAnswerFor, PathCall, assignmentCause, leastFor, assignmentKind, AssignmentCall, overwrite, searchAnswer, SearchCall}
 use Rattle.path.specs.Meant.{Meant as PathMeant}
 use Rattle.assignment.specs.Meant.{Meant as AssignmentMeant}
 use Rattle.in_order.specs.Listed.{listsOf, roomFor, listedFor}
@@ -19,7 +19,7 @@ use Rattle.board.specs.Call.{boardLines, BoardRight}
 
 -- the words of workspace that an accepted sheet asks for, by its cause; 0 for any other
 unfoldable pub workspaceWanted : ℕ → Sheet → ℕ
-workspaceWanted zero d = workspaceFor d
+workspaceWanted zero d = workspaceOf d
 workspaceWanted (suc c) d = 0
 
 abbrev pub stretchNumbers : Stretch → List ℕ

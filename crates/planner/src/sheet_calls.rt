@@ -1,22 +1,23 @@
 // What a sheet is refused for, the workspace that it asks for, and where a task's goals stand in it.
 use numbers::wide;
 ghost use mathlib.Core.Path.{_≡_};
-ghost use Rattle.deck.specs.Sheet.{read, cause, task};
+ghost use Rattle.deck.specs.Sheet.{read, sheetCause, task};
 ghost use Rattle.deck.specs.Calls.{goalsCall};
 ghost use Rattle.planner.specs.Exports.{workspaceWanted, stretchNumbers};
 
-// The first cause that lies in the sheet itself, 1 to 7, and 0 for an accepted sheet.
+// The first cause that lies in the sheet itself, 1 to 7, and 0 for an accepted sheet. A sheet of no bytes, the dark house, is one.
 #[no_mangle]
 pub extern "C" fn planner_cause(s: &[u8]) -> u32
-    ensures { λ r. ⌜ r ≡ cause (now (s .entry)) ⌝ }
+    ensures { λ r. ⌜ r ≡ sheetCause (now (s .entry)) ⌝ }
 {
     wide(sheet::cause(s))
 }
 
-// How many words of 32 bits of workspace an accepted sheet asks for, 0 for any other.
+// How many words of 32 bits of workspace an accepted sheet asks for, 0 for any other. A sheet of no bytes asks for none: whether a sheet
+// is refused is what planner_cause says.
 #[no_mangle]
 pub extern "C" fn planner_workspace(s: &[u8]) -> usize
-    ensures { λ r. ⌜ r ≡ workspaceWanted (cause (now (s .entry))) (read (now (s .entry))) ⌝ }
+    ensures { λ r. ⌜ r ≡ workspaceWanted (sheetCause (now (s .entry))) (read (now (s .entry))) ⌝ }
 {
     if sheet::cause(s) == 0 {
         sheet::workspace(s)

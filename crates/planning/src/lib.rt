@@ -1,4 +1,4 @@
-// The search of an accepted sheet with room enough: the first root, the turns, and the answer for their end.
+// The search of an accepted sheet that has bytes, with room enough: the first root, the turns, and the answer for their end.
 use deck::Carrier;
 use deck::SearchAnswer;
 use deck::SearchKind;
@@ -50,7 +50,7 @@ fn bounds_of(s: &[u8], mask: &[u8; 1156], table: &mut [u8])
     }
 }
 
-// An answer without a plan.
+// An answer in which no carrier has a task.
 pub fn without(kind: SearchKind, nodes: usize, bound: usize) -> SearchAnswer
     ensures { λ r. ⌜ r ≡ (record { kind = kind; tasks = noTasks; flowtime = 0; nodes = nodes; bound = bound }) ⌝ }
 {
@@ -109,7 +109,7 @@ fn planned(
     answered(s, starts, work, end, out)
 }
 
-// The search of an accepted sheet with room enough.
+// The search of an accepted sheet that has bytes, with room enough.
 pub fn accepted(s: &[u8], work: &mut [u32], out: &mut [u16]) -> SearchAnswer
     requires { ⌜ (cause (now s) ≡ 0) × (workspaceFor (read (now s)) ≤ length (now work)) × (planWords (read (now s)) ≤ length (now out)) ⌝ }
     ensures { λ r. ⌜ (r ≡ searchFound (planFor (read (now (s .entry))))) × (now (out .exit) ≡ searchWritten (planFor (read (now (s .entry)))) (now (out .entry))) ⌝ }

@@ -9,12 +9,13 @@ use lib.Dec.{T, eqb, leb}
 use lib.ListN.{length, getD, length-append, List·getD-append}
 use borrow.Author.Tests.{le-leb}
 use Rattle.deck.specs.Lists.{below, all}
-use Rattle.deck.specs.Sheet.{byteAt, countOf, pairAt, gridPair, startsPair, taskPair, pairsFor, gridStretch, startsStretch, taskStretch, task, read, directoryEnd, chained, goalsSize, goodHeader, goodDirectory, unless, _orElse_, cause}
+use Rattle.deck.specs.Sheet.{byteAt, countOf, pairAt, gridPair, startsPair, taskPair, pairsFor, gridStretch, startsStretch, taskStretch, task, read, directoryEnd, chained, goalsSize, goodHeader, goodDirectory, unless, _orElse_, cause, sheetCause}
 use Rattle.deck.specs.Calls.{searchCause, searchAnswerFor, searchOutputFor, searchAnswer, searchOutput}
 use Rattle.deck.specs.Listing.{decimal, text, listingFor, listing}
 use Rattle.meaning.proofs.Tests.{Says, says-eqb, says-leb, says-and}
 use Rattle.meaning.proofs.ListTests.{says-all-at}
 use Rattle.meaning.proofs.Accepted.{header-says, directory-says}
+use Rattle.meaning.proofs.Dark.{cause-with}
 use Rattle.sheet_parts.proofs.Scans.{below-at, length-below}
 use Rattle.round_text.specs.Longest.{longest}
 
@@ -65,9 +66,9 @@ module _ (s : List ℕ) (long : longest < length s) where
   by-header true false later e f = refl
   by-header true true later e f = absurd (omega (arith, at-most-longest s (rw e tt) (rw f tt)))
 
-  long-cause : cause s ≡ (unless (goodHeader s) 2 orElse 3)
+  long-cause : sheetCause s ≡ (unless (goodHeader s) 2 orElse 3)
   unfolding cause
-  long-cause = rw (le-leb 8 (length s) (omega arith)) (by-header (goodHeader s) (goodDirectory s) _ refl refl)
+  long-cause = cause-with s (λ e. omega arith) ∙ rw (le-leb 8 (length s) (omega arith)) (by-header (goodHeader s) (goodDirectory s) _ refl refl)
 
 header-same : (s rest : List ℕ) → 8 ≤ length s → goodHeader (s ++ rest) ≡ goodHeader s
 unfolding goodHeader
@@ -77,7 +78,7 @@ header-same s rest h = rw (at 0 (omega arith), at 1 (omega arith), at 2 (omega a
     at k l = List·getD-append s rest 0 k (omega arith)
 
 -- the listing of a refused sheet has its cause alone
-refused-same : (s t : List ℕ) (c : ℕ) → cause s ≡ suc c → cause t ≡ suc c → listing s ≡ listing t
+refused-same : (s t : List ℕ) (c : ℕ) → sheetCause s ≡ suc c → sheetCause t ≡ suc c → listing s ≡ listing t
 unfolding listing searchAnswer searchOutput searchCause searchAnswerFor searchOutputFor listingFor
 refused-same s t c e f = rw (e, f) refl
 
@@ -85,7 +86,7 @@ refused-same s t c e f = rw (e, f) refl
 pub listing-long : (s rest : List ℕ) → longest < length s → listing s ≡ listing (s ++ rest)
 listing-long s rest long = go (goodHeader s) refl
   where
-    same : cause (s ++ rest) ≡ (unless (goodHeader s) 2 orElse 3)
+    same : sheetCause (s ++ rest) ≡ (unless (goodHeader s) 2 orElse 3)
     same =
         long-cause (s ++ rest) (simp length-append (omega arith))
         ∙ ap (λ h. unless h 2 orElse 3) (header-same s rest (omega arith))

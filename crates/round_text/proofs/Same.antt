@@ -4,9 +4,9 @@ use mathlib.Core.Path.{_≡_, refl, ap, ap₂, _∙_}
 use mathlib.Core.List.{List}
 use lib.ListN.{length, drop, replicate}
 use Rattle.deck.specs.Lists.{flat}
-use Rattle.deck.specs.Sheet.{Sheet, read, cause}
+use Rattle.deck.specs.Sheet.{Sheet, read, sheetCause}
 use Rattle.deck.specs.Search.{Answer, plan, noPlan, spent}
-use Rattle.deck.specs.Planner.{planFor}
+use Rattle.deck.specs.Planner.{roundOf}
 use Rattle.deck.specs.Calls.{searchCause, searchFound, searchWritten, searchAnswerFor, searchOutputFor, searchAnswer, searchOutput, SearchCall}
 use Rattle.deck.specs.Numbers.{searchNumbers}
 use Rattle.deck.proofs.Told.{search-answered}
@@ -16,12 +16,11 @@ use Rattle.deck.specs.declared.SearchKind.{SearchKind}
 use Rattle.deck.specs.declared.SearchKind.the-variants.{Plan, NoPlan, Spent, Refused}
 use Rattle.deck.specs.declared.SearchAnswer.{SearchAnswer}
 use Rattle.meaning.specs.Meaning.{Right}
-use Rattle.optimal.proofs.Demand3.{demand3}
-use Rattle.optimal.proofs.Written.{plan-pieces}
+use Rattle.optimal.proofs.Written.{plan-pieces, round-right}
 use Rattle.meaning.proofs.Accepted.{search-accepted}
 use Rattle.listing.specs.Listed.{Listable}
 
-accepted-listable : (s : List ℕ) → cause s ≡ 0 → (k : SearchKind) → Listable s k
+accepted-listable : (s : List ℕ) → sheetCause s ≡ 0 → (k : SearchKind) → Listable s k
 accepted-listable s ok Plan = ok
 accepted-listable s ok NoPlan = tt
 accepted-listable s ok Spent = tt
@@ -43,8 +42,8 @@ module _ (s out other : List ℕ) where
       ≡ listingFor (read s) (searchAnswerFor c (read s) .kind) (searchAnswerFor c (read s)) (searchOutputFor c (read s) other))
   unfolding searchAnswerFor searchOutputFor listingFor
   same-for zero e =
-      let ok : cause s ≡ 0 = search-accepted s 16384 3072 e .0 in
-      (accepted-listable s ok (searchFound (planFor (read s)) .kind), found-same (read s) out other (planFor (read s)) (demand3 s ok))
+      let ok : sheetCause s ≡ 0 = search-accepted s 16384 3072 e .0 in
+      (accepted-listable s ok (searchFound (roundOf (read s)) .kind), found-same (read s) out other (roundOf (read s)) (round-right s ok))
   same-for (suc c) e = (tt, refl)
 
 module _ (s out : List ℕ) (words : length out ≡ 3072) where
@@ -68,4 +67,5 @@ call-lent s work out numbers work′ out′ w o call =
     record {
       written = call .written ∙ ap (λ n. searchOutput s n out) w;
       refused-work = λ n. call .refused-work (λ e. n (rw (w, o) at e));
+      dark-work = call .dark-work;
     }

@@ -27,7 +27,7 @@ fn refusal(s: &[u8], work: usize, out: usize) -> u8
     0
 }
 
-// THE CALL: for any sheet, workspace and output. A refused call changes no lent word.
+// THE CALL: for any sheet, workspace and output. A refused call changes no lent word, nor does that of a sheet of no bytes.
 pub fn search(s: &[u8], work: &mut [u32], out: &mut [u16]) -> SearchAnswer
     ensures call { λ r. ⌜ SearchCall (now (s .entry)) (now (work .entry)) (now (out .entry)) (searchNumbers r) (now (work .exit)) (now (out .exit)) ⌝ }
     ensures right { λ r. ⌜ RightCall (read (now (s .entry))) r (now (out .exit)) ⌝ }
@@ -35,6 +35,9 @@ pub fn search(s: &[u8], work: &mut [u32], out: &mut [u16]) -> SearchAnswer
     let c = refusal(s, work.len(), out.len());
     if c != 0 {
         return planning::without(SearchKind::Refused(c), 0, 0);
+    }
+    if s.len() == 0 {
+        return planning::without(SearchKind::Plan, 0, 0);
     }
     planning::accepted(s, work, out)
 }

@@ -4,8 +4,9 @@
 // answer, and the output's words up to the last that was changed.
 // The cases are the rounds 1 to 6 of document 01, 5 and 6 at every node limit; sheets of many kinds with plans, none and spent at 0 to
 // 2048 nodes; single sheets at many node limits up to one more than they need; up to 12 carriers on little room (many assignments of
-// one sum), grids of one row and of one column, finishes above 200, grids up to 32 by 32; and each cause alone and with later ones,
-// workspace and output exact and one word short.
+// one sum), grids of one row and of one column, finishes above 200, grids up to 32 by 32; each cause alone and with later ones,
+// workspace and output exact and one word short; and the sheet of no bytes with workspace and output of several lengths, each time
+// before a refused sheet that finds the workspace as it was left.
 use deck::SearchAnswer;
 use deck::SearchKind;
 use libc::STDIN_FILENO;

@@ -1,4 +1,4 @@
--- What an accepted sheet gives, beyond the laws of the crate meaning: the ranges of the header, the grid's length, starts and goals
+-- What a sheet without causes gives, beyond the laws of the crate meaning: the ranges of the header, the grid's length, starts and goals
 -- on free places of the grid, how many goals a task has, and the bound on the workspace. Assumes nothing.
 use Prim.Native.Nat.{ℕ, suc, _-_, _%_, _≤_, _<_}
 use mathlib.Core.Path.{_≡_, refl, sym, _∙_}
@@ -16,7 +16,7 @@ use Rattle.deck.specs.declared.Carrier.{Carrier}
 use Rattle.deck.specs.declared.Task.{Task}
 use Rattle.meaning.proofs.Tests.{Says, says-eqb, says-leb, says-and, says-not}
 use Rattle.meaning.proofs.ListTests.{says-all-at, says-distinct}
-use Rattle.meaning.proofs.Accepted.{Inside, accepted, accepted-horizon, accepted-inside, accepted-starts, header-says, directory-says}
+use Rattle.meaning.proofs.Accepted.{Inside, accepted, accepted-count, accepted-horizon, accepted-inside, accepted-starts, header-says, directory-says}
 use Rattle.sheet_parts.proofs.Words.{length-words}
 use Rattle.sheet_parts.proofs.Tasks.{goals-there, each-task-at}
 -- of any sheet: as many lists of goals as tasks; past the last task no goals; the last of the goals by its index
@@ -55,7 +55,7 @@ module _ (s : List ℕ) (ok : cause s ≡ 0) where
   height-range = header-says s .fact (accepted s ok .header) .0 .0 .0 .0 .0 .1
 
   pub count-range : (1 ≤ read s .count) × (read s .count ≤ 12)
-  count-range = header-says s .fact (accepted s ok .header) .0 .0 .0 .0 .1
+  count-range = accepted-count s ok
 
   pub limit-range : (1 ≤ read s .limit) × (read s .limit ≤ 4096)
   limit-range = header-says s .fact (accepted s ok .header) .0 .0 .1

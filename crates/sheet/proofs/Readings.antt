@@ -3,7 +3,7 @@ use Prim.Native.Nat.{ℕ, zero, suc}
 use mathlib.Core.Path.{_≡_, refl}
 use mathlib.Core.List.{List, [], map}
 use Rattle.deck.specs.Lists.{below}
-use Rattle.deck.specs.Sheet.{widthOf, heightOf, countOf, horizonOf, limitOf, pairAt, pairsFor, cause}
+use Rattle.deck.specs.Sheet.{widthOf, heightOf, countOf, horizonOf, limitOf, pairAt, pairsFor, sheetCause}
 use Rattle.deck.specs.Calls.{pairList, readingFor, readCall}
 use Rattle.deck.specs.declared.Reading.{Reading}
 
@@ -24,7 +24,7 @@ offsetsTo s n = pairList (map (λ k. pairAt s k .offset) (below n))
 abbrev pub lengthsTo : List ℕ → ℕ → List ℕ
 lengthsTo s n = pairList (map (λ k. pairAt s k .size) (below n))
 
-pub accepted : (s : List ℕ) {w h m t n p : ℕ} {o l : List ℕ} → cause s ≡ 0 → p ≡ pairsFor (countOf s) → o ≡ offsetsTo s p → l ≡ lengthsTo s p
+pub accepted : (s : List ℕ) {w h m t n p : ℕ} {o l : List ℕ} → sheetCause s ≡ 0 → p ≡ pairsFor (countOf s) → o ≡ offsetsTo s p → l ≡ lengthsTo s p
     → w ≡ widthOf s → h ≡ heightOf s → m ≡ countOf s → t ≡ horizonOf s → n ≡ limitOf s → reading 0 w h m t n o l ≡ readCall s
 unfolding readCall readingFor
 accepted s ok p o l w h m t n = rw (o, l, w, h, m, t, n, p, ok) refl
@@ -35,6 +35,6 @@ unfolding readingFor
 cause-for zero s = refl
 cause-for (suc c) s = refl
 
-pub reading-cause : (s : List ℕ) → readCall s .cause ≡ cause s
+pub reading-cause : (s : List ℕ) → readCall s .cause ≡ sheetCause s
 unfolding readCall
-reading-cause s = cause-for (cause s) s
+reading-cause s = cause-for (sheetCause s) s

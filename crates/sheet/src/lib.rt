@@ -1,6 +1,6 @@
 // The calls that read a job sheet (document 01, "The job sheet"). Each equals its definition on any bytes whatever: a byte past the
-// end reads 0, a stretch is cut off where the sheet ends, and a task from m on has no goals. What holds of an accepted sheet alone is
-// said as an implication.
+// end reads 0, a stretch is cut off where the sheet ends, and a task from m on has no goals. What holds of a sheet without causes
+// alone is said as an implication.
 use deck::Carrier;
 use deck::MOST_PAIRS;
 use deck::Reading;
@@ -10,20 +10,20 @@ use sheet_parts::STARTS;
 ghost use mathlib.Core.Path.{_≡_};
 ghost use Prim.Native.Nat.{_<_, _≤_, max};
 ghost use lib.ListN.{length, getD};
-ghost use Rattle.deck.specs.Sheet.{widthOf, heightOf, countOf, horizonOf, limitOf, part, gridStretch, read, area, gridByte, free, startOf, goalsOf, lastGoal, mostGoals, cause};
-ghost use Rattle.deck.specs.Calls.{workspaceFor, readCall, goalsCall};
+ghost use Rattle.deck.specs.Sheet.{widthOf, heightOf, countOf, horizonOf, limitOf, part, gridStretch, read, area, gridByte, free, startOf, goalsOf, lastGoal, mostGoals, cause, sheetCause};
+ghost use Rattle.deck.specs.Calls.{workspaceFor, workspaceOf, readCall, goalsCall};
 ghost use Rattle.sheet_parts.specs.Part.{BeginsAt};
 
-// The first cause that lies in the sheet itself, 1 to 7, and 0 for an accepted sheet.
+// The first cause that lies in the sheet itself, 1 to 7, and 0 for an accepted sheet. A sheet of no bytes, the dark house, is one.
 pub fn cause(s: &[u8]) -> u8
-    ensures { λ r. ⌜ r ≡ cause (now (s .entry)) ⌝ }
+    ensures { λ r. ⌜ r ≡ sheetCause (now (s .entry)) ⌝ }
 {
     sheet_causes::cause(s)
 }
 
 // Of an accepted sheet the header and the directory's pairs; past the last pair the arrays hold 0.
 fn read_accepted(s: &[u8]) -> Reading
-    requires { ⌜ cause (now s) ≡ 0 ⌝ }
+    requires { ⌜ sheetCause (now s) ≡ 0 ⌝ }
     ensures { λ r. ⌜ r ≡ readCall (now (s .entry)) ⌝ }
 {
     let n = sheet_parts::pairs(s);
@@ -202,12 +202,19 @@ fn most_goals(s: &[u8]) -> usize
     most
 }
 
-// How many words of 32 bits of workspace the sheet asks for.
-pub fn workspace(s: &[u8]) -> usize
+// The words of 32 bits of workspace by the formula.
+fn formula(s: &[u8]) -> usize
     ensures { λ r. ⌜ r ≡ workspaceFor (read (now (s .entry))) ⌝ }
-    ensures { λ r. ⌜ (cause (now (s .entry)) ≡ 0 → r < 8388608) ⌝ }
 {
     let layers = horizon(s) + 1;
     let labels = most_goals(s) + 1;
     512 * limit(s) + layers * area(s) * labels + 4096
+}
+
+// How many words of 32 bits of workspace the sheet asks for: none without carriers.
+pub fn workspace(s: &[u8]) -> usize
+    ensures { λ r. ⌜ r ≡ workspaceOf (read (now (s .entry))) ⌝ }
+    ensures { λ r. ⌜ (sheetCause (now (s .entry)) ≡ 0 → r < 8388608) ⌝ }
+{
+    if count(s) == 0 { 0 } else { formula(s) }
 }

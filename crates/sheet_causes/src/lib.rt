@@ -24,7 +24,7 @@ ghost use Prim.Native.Nat.{_<_};
 ghost use lib.Dec.{leb};
 ghost use lib.ListN.{length, getD, drop};
 ghost use Rattle.deck.specs.Lists.{below, within, all, has, distinct};
-ghost use Rattle.deck.specs.Sheet.{countOf, pairsFor, directoryEnd, task, taskStretch, words, read, free, goodHeader, chained, goalsSize, goodDirectory, goodGrid, goodStarts, goodGoals, goodLastGoals, cause};
+ghost use Rattle.deck.specs.Sheet.{countOf, pairsFor, directoryEnd, task, taskStretch, words, read, free, goodHeader, chained, goalsSize, goodDirectory, goodGrid, goodStarts, goodGoals, goodLastGoals, cause, sheetCause};
 ghost use Rattle.sheet_causes.specs.Compared.{comparedOf};
 
 // x is from low to high, both included.
@@ -233,8 +233,8 @@ fn last_goals_good(s: &[u8]) -> bool
     all_differ(s, Compared::LastGoals)
 }
 
-// The first cause that lies in the sheet itself, 1 to 7, and 0 for an accepted sheet. Causes are tried in the table's order.
-pub fn cause(s: &[u8]) -> u8
+// The first cause that lies in a sheet that has bytes, 1 to 7, and 0 where it has none. Causes are tried in the table's order.
+fn first_cause(s: &[u8]) -> u8
     ensures { λ r. ⌜ r ≡ cause (now (s .entry)) ⌝ }
 {
     if s.len() < 8 {
@@ -261,4 +261,14 @@ pub fn cause(s: &[u8]) -> u8
         return causes::SHARED_LAST_GOAL;
     }
     0
+}
+
+// The first cause that lies in the sheet itself, and 0 for an accepted sheet. A sheet of no bytes, the dark house, is one.
+pub fn cause(s: &[u8]) -> u8
+    ensures { λ r. ⌜ r ≡ sheetCause (now (s .entry)) ⌝ }
+{
+    if s.len() == 0 {
+        return 0;
+    }
+    first_cause(s)
 }

@@ -10,11 +10,12 @@ use lib.ListN.{length, getD, length-map, List·getD-eq-default, List·getD-map}
 use borrow.Author.Tests.{lt-ltb, le-ltb}
 use Rattle.deck.specs.Causes.{badNumber}
 use Rattle.deck.specs.Lists.{below}
-use Rattle.deck.specs.Sheet.{Stretch, countOf, task, taskPair, taskStretch, part, words, read, goalsOf, cause, unless, _orElse_}
+use Rattle.deck.specs.Sheet.{Stretch, countOf, task, taskPair, taskStretch, part, words, read, goalsOf, sheetCause, unless, _orElse_}
 use Rattle.deck.specs.Calls.{stretchFor, goalsCause, goalsCall}
 use Rattle.deck.specs.declared.Task.{Task}
 use Rattle.meaning.proofs.Lists.{getD-tabulate, length-countFrom}
 use Rattle.meaning.proofs.Accepted.{accepted-inside}
+use Rattle.meaning.proofs.Dark.{with-carriers}
 use Rattle.sheet_parts.specs.Part.{taskPart}
 
 abbrev pub nowhere : Stretch
@@ -53,19 +54,19 @@ unchosen zero m r h = absurd (h refl)
 unchosen (suc n) m r h = refl
 
 module _ (s : List ℕ) (j : Task) where
-  pub goals-accepted : cause s ≡ 0 → goalsCall s j ≡ taskPart s j
+  pub goals-accepted : sheetCause s ≡ 0 → goalsCall s j ≡ taskPart s j
   unfolding goalsCall goalsCause
   goals-accepted e = rw e refl
 
-  pub goals-refused : (cause s ≡ 0 → ⊥) → goalsCall s j ≡ nowhere
+  pub goals-refused : (sheetCause s ≡ 0 → ⊥) → goalsCall s j ≡ nowhere
   unfolding goalsCall goalsCause
-  goals-refused h = unchosen (cause s) (unless (ltb (j .0) (countOf s)) badNumber) (taskStretch s j) h
+  goals-refused h = unchosen (sheetCause s) (unless (ltb (j .0) (countOf s)) badNumber) (taskStretch s j) h
 
-  pub part-begins : cause s ≡ 0 → taskPart s j .offset ≤ length s
+  pub part-begins : sheetCause s ≡ 0 → taskPart s j .offset ≤ length s
   part-begins ok = go (decLe (countOf s) (j .0))
     where
       go : Dec (countOf s ≤ j .0) → taskPart s j .offset ≤ length s
       go (yes h) = rw (no-task s j h) (omega arith)
       go (no h) =
           let l : j .0 < countOf s = omega arith in
-          rw (task-there s j l) (omega (arith, accepted-inside s ok (taskPair (j .0)) (omega arith)))
+          rw (task-there s j l) (omega (arith, accepted-inside s (with-carriers s ok (omega arith)) (taskPair (j .0)) (omega arith)))

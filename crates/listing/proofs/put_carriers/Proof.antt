@@ -7,8 +7,7 @@ use borrow.Author.Needs.{needs}
 use Rattle.deck.specs.Lists.{below, each}
 use Rattle.deck.specs.Sheet.{read}
 use Rattle.meaning.proofs.Lists.{piece-inside}
-use Rattle.meaning.proofs.Accepted.{accepted-horizon}
-use Rattle.sheet.proofs.Accepted.{count-range}
+use Rattle.meaning.proofs.Dark.{most-carriers, short-horizon}
 use Rattle.listing.specs.Wrote.{Wrote}
 use Rattle.listing.proofs.Buffers.{wrote-none}
 use Rattle.listing.proofs.Lines.{lineAt, line-more, lines-all}
@@ -22,13 +21,13 @@ abbrev μ-loop : tie.MeasureT-loop
 μ-loop s m h paths text₀ at tasks n next₀ i₀ text next i = m - i
 
 few : (s : tie.Start Inv-loop μ-loop) → s .args .m ≤ 12
-few s = omega (arith, s .pre .1, count-range (now (s .args .s)) (s .pre .0))
+few s = omega (arith, s .pre .1, most-carriers (now (s .args .s)) (s .pre .0))
 
 words-fit : (s : tie.Start Inv-loop μ-loop) (i : ℕ) → i < s .args .m → i * (s .args .h + 1) + (s .args .h + 1) ≤ 3072
-words-fit s i l = piece-inside i (s .args .h + 1) 12 3072 (omega (arith, few s)) (omega (arith, s .pre .2, accepted-horizon _ (s .pre .0)))
+words-fit s i l = piece-inside i (s .args .h + 1) 12 3072 (omega (arith, few s)) (omega (arith, s .pre .2, short-horizon _ (s .pre .0)))
 
 add-n : tie.Need-add-n Inv-loop μ-loop
-add-n c = omega (arith, c .before .before .before .pre .2, accepted-horizon _ (c .before .before .before .pre .0))
+add-n c = omega (arith, c .before .before .before .pre .2, short-horizon _ (c .before .before .before .pre .0))
 
 loop-holds : tie.Need-loop-holds Inv-loop μ-loop
 loop-holds c = (omega arith, wrote-none (now (c .before .before .before .args .text)) (c .before .before .before .args .at) (c .before .before .before .pre .3))

@@ -2,7 +2,7 @@
 use mathlib.Core.Path.{_≡_, refl, sym, ap, _∙_}
 use denote.Ref.{now}
 use borrow.Author.Needs.{needs}
-use Rattle.deck.specs.Sheet.{cause, countOf, horizonOf}
+use Rattle.deck.specs.Sheet.{sheetCause, countOf, horizonOf}
 use Rattle.deck.specs.Listing.{text, textFrom}
 use Rattle.sheet.proofs.Readings.{reading-cause}
 use Rattle.plan_check.proofs.Calls.{read-count, read-horizon}
@@ -11,7 +11,7 @@ use Rattle.listing.proofs.put_plan.Statement.{statement}
 use Rattle.listing.proofs.put_plan.Tie as tie
 
 -- what is known once the sheet is accepted
-accepted : (c : tie.Else1) → cause (now (c .before .before .before .before .before .before .args .s)) ≡ 0
+accepted : (c : tie.Else1) → sheetCause (now (c .before .before .before .before .before .before .args .s)) ≡ 0
 accepted c = sym (reading-cause _) ∙ sym (ap (λ x. x .cause) (c .before .before .read .ensures)) ∙ c .if1 .left
 
 count-is : (c : tie.Else1) → c .before .before .read .result .count ≡ countOf (now (c .before .before .before .before .before .before .args .s))

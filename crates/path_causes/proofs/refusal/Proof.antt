@@ -5,14 +5,15 @@ use mathlib.Core.Path.{_≡_, sym, _∙_}
 use mathlib.Core.Bool.{true}
 use Prim.Native.Nat.{_<_, _≤_}
 use borrow.Author.Tests.{not-true, not-false}
-use Rattle.deck.specs.Sheet.{read, countOf, cause}
-use Rattle.deck.specs.Calls.{goodRecords, workspaceFor}
+use Rattle.deck.specs.Sheet.{read, countOf, sheetCause}
+use Rattle.deck.specs.Calls.{goodRecords, workspaceOf}
+use Rattle.meaning.proofs.Dark.{with-carriers}
 use Rattle.path_causes.proofs.Causes.{cause-first, cause-carrier, cause-task, cause-records, cause-work, cause-out, cause-none}
 use Rattle.path_causes.proofs.refusal.Statement.{statement}
 use Rattle.path_causes.proofs.refusal.Tie as tie
 
 -- What each test that has passed says
-accepted : (c : tie.Else1) → cause (c .before .before .before .before .args .s .now) ≡ 0
+accepted : (c : tie.Else1) → sheetCause (c .before .before .before .before .args .s .now) ≡ 0
 accepted c = sym (c .before .cause .ensures) ∙ c .if1 .left
 
 carrier-in : (c : tie.Else2) → let a = c .before .before .before .before .before .before .before .args in a .i .0 < countOf (a .s .now)
@@ -25,10 +26,10 @@ records-good : (c : tie.Else4) → let a = c .before .before .before .before .be
 records-good c = sym (c .before .good-records .ensures) ∙ not-false _ (c .if4 .left)
 
 -- the words of workspace that the sheet asks for
-room-is : (c : tie.After-workspace) → c .workspace .result ≡ workspaceFor (read (c .before .before .before .before .before .before .before .before .before .before .before .before .args .s .now))
+room-is : (c : tie.After-workspace) → c .workspace .result ≡ workspaceOf (read (c .before .before .before .before .before .before .before .before .before .before .before .before .args .s .now))
 room-is c = c .workspace .ensures .0
 
-enough : (c : tie.Else5) → let a = c .before .before .before .before .before .before .before .before .before .before .before .before .before .before .args in workspaceFor (read (a .s .now)) ≤ a .work
+enough : (c : tie.Else5) → let a = c .before .before .before .before .before .before .before .before .before .before .before .before .before .before .args in workspaceOf (read (a .s .now)) ≤ a .work
 enough c = omega (arith, room-is (c .before .before), c .if5 .left)
 
 cause-requires : tie.Need-cause-requires
@@ -58,7 +59,9 @@ returns-3 c =
     (omega (arith, e2 .before .before .count .ensures .0, c .if3 .taken))
 
 good-records-requires : tie.Need-good-records-requires
-good-records-requires c κs = search needs
+good-records-requires c κs =
+    let e1 = c .before .before .before .before .before in
+    with-carriers (e1 .before .before .before .before .args .s .now) (accepted e1) (omega (arith, task-in c))
 
 returns-4 : tie.Need-returns-4
 returns-4 c =

@@ -10,13 +10,12 @@ use lib.Dec.{eqb}
 use denote.Ref.{now}
 use borrow.Author.Tests.{not-true, not-false}
 use Rattle.deck.specs.Lists.{all, isNil, pieces}
-use Rattle.deck.specs.Sheet.{read, cause, widthOf, countOf, horizonOf}
+use Rattle.deck.specs.Sheet.{read, sheetCause, widthOf, countOf, horizonOf}
 use Rattle.deck.specs.Collisions.{collisions}
 use Rattle.deck.specs.PlanCheck.{isAssignment}
 use Rattle.deck.specs.Calls.{planWords}
-use Rattle.meaning.proofs.Accepted.{accepted-horizon}
+use Rattle.meaning.proofs.Dark.{most-carriers, short-horizon}
 use Rattle.plan_check.specs.Answers.{flowAnswer}
-use Rattle.sheet.proofs.Accepted.{count-range}
 use Rattle.sheet.proofs.Readings.{reading-cause}
 use Rattle.plan_check.proofs.Calls.{read-width, read-count, read-horizon, sheet-refused, length-refused, not-assigned, not-ended, not-apart, all-tested}
 use borrow.Author.Needs.{needs}
@@ -27,7 +26,7 @@ use Rattle.plan_check.proofs.check_plan.Tie as tie
 abbrev start-of : tie.Else1 → tie.Start
 start-of c = c .before .before .before .before .before
 
-ok : (c : tie.Else1) → cause (now (start-of c .args .s)) ≡ 0
+ok : (c : tie.Else1) → sheetCause (now (start-of c .args .s)) ≡ 0
 ok c = sym (reading-cause _) ∙ sym (ap (λ x. x .cause) (c .before .before .read .ensures)) ∙ c .if1 .left
 
 w-is : (c : tie.Else1) → c .before .before .read .result .width ≡ widthOf (now (start-of c .args .s))
@@ -40,10 +39,10 @@ h-is : (c : tie.Else1) → c .before .before .read .result .horizon ≡ horizonO
 h-is c = ap (λ x. x .horizon) (c .before .before .read .ensures) ∙ read-horizon _ (ok c)
 
 few : (c : tie.Else1) → c .before .before .read .result .count ≤ 12
-few c = omega (arith, m-is c, count-range (now (start-of c .args .s)) (ok c) .1)
+few c = omega (arith, m-is c, most-carriers (now (start-of c .args .s)) (ok c))
 
 few-times : (c : tie.Else1) → c .before .before .read .result .horizon ≤ 255
-few-times c = omega (arith, h-is c, accepted-horizon _ (ok c))
+few-times c = omega (arith, h-is c, short-horizon _ (ok c))
 
 words-are : (c : tie.Else1)
     → c .before .before .read .result .count * (c .before .before .read .result .horizon + 1) ≡ planWords (read (now (start-of c .args .s)))

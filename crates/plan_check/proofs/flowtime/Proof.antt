@@ -13,9 +13,8 @@ use Rattle.deck.specs.Lists.{pieces}
 use Rattle.deck.specs.Sheet.{read}
 use Rattle.collision_scan.specs.Words.{Row}
 use Rattle.collision_scan.proofs.Words.{row-within}
-use Rattle.meaning.proofs.Accepted.{accepted-horizon}
+use Rattle.meaning.proofs.Dark.{most-carriers, short-horizon, with-carriers}
 use Rattle.plan_check.specs.Answers.{flowAnswer}
-use Rattle.sheet.proofs.Accepted.{count-range}
 use Rattle.plan_check.proofs.Flow.{flowFrom, flow-start, flow-over, flow-next, flow-none, flow-refused, path-small, pieces-length, piece-is, piece-long}
 use Rattle.plan_check.proofs.flowtime.Statement.{statement}
 use Rattle.plan_check.proofs.flowtime.Tie as tie
@@ -28,7 +27,7 @@ abbrev μ-loop : tie.MeasureT-loop
 μ-loop s w m h paths tasks n sum₀ i₀ sum i = m - i
 
 few : (s : tie.Start Inv-loop μ-loop) → s .args .m ≤ 12
-few s = omega (arith, s .pre .2, count-range (now (s .args .s)) (s .pre .0))
+few s = omega (arith, s .pre .2, most-carriers (now (s .args .s)) (s .pre .0))
 
 la : (s : tie.Start Inv-loop μ-loop) → length (take (s .args .m) (s .args .t5)) ≡ s .args .m
 la s = length-take-le (s .args .m) (s .args .t5) (omega (arith, few s, good-length (eInt w8) 12 (s .args .t5) _ (s .good .1 .1 .1 .1 .0)))
@@ -52,7 +51,7 @@ task-is c =
     c .task-of .ensures .0 ∙ sym (getD-take (s .args .m) (s .args .t5) (l .before .loop .i) 0 (l .loop-test .taken))
 
 add-n : tie.Need-add-n Inv-loop μ-loop
-add-n c = omega (arith, c .before .before .pre .3, accepted-horizon _ (c .before .before .pre .0))
+add-n c = omega (arith, c .before .before .pre .3, short-horizon _ (c .before .before .pre .0))
 
 loop-holds : tie.Need-loop-holds Inv-loop μ-loop
 loop-holds c =
@@ -89,7 +88,7 @@ path-finish-requires : tie.Need-path-finish-requires Inv-loop μ-loop
 path-finish-requires c κs =
     let l = c .before .before .before in
     let s = l .before .before .before .before in
-    (s .pre .0, s .pre .1, s .pre .3, piece-long (s .args .h) (s .args .h + 1) (l .before .loop .i) (now (s .args .paths)) (add-one _) (row s (l .before .loop .i) (l .loop-test .taken)))
+    (with-carriers _ (s .pre .0) (omega (arith, s .pre .2, l .loop-test .taken)), s .pre .1, s .pre .3, piece-long (s .args .h) (s .args .h + 1) (l .before .loop .i) (now (s .args .paths)) (add-one _) (row s (l .before .loop .i) (l .loop-test .taken)))
 
 enum-known-t : tie.Need-enum-known-t Inv-loop μ-loop
 enum-known-t c = search needs
@@ -99,7 +98,7 @@ add-sum c =
     let w = c .before .before .before .before .before in
     let l = w .before .before in
     let s = l .before .before .before .before in
-    omega (arith, few s, l .before .loop .inv .0, path-small _ _ _ _ (c .before .t .given .0 .0) (c .before .before .before .path-finish .ensures) (c .before .t .given .1), accepted-horizon _ (s .pre .0))
+    omega (arith, few s, l .before .loop .inv .0, path-small _ _ _ _ (c .before .t .given .0 .0) (c .before .before .before .path-finish .ensures) (c .before .t .given .1), short-horizon _ (s .pre .0))
 
 enum-told : tie.Need-enum-told Inv-loop μ-loop
 enum-told c = search needs
@@ -134,7 +133,7 @@ loop-again c =
     let w = c .before .before .before .before .before in
     let l = w .before .before in
     let s = l .before .before .before .before in (
-      omega (arith, l .before .loop .inv .0, path-small _ _ _ _ (c .before .t .given .0 .0) (c .before .before .before .path-finish .ensures) (c .before .t .given .1), accepted-horizon _ (s .pre .0)),
+      omega (arith, l .before .loop .inv .0, path-small _ _ _ _ (c .before .t .given .0 .0) (c .before .before .before .path-finish .ensures) (c .before .t .given .1), short-horizon _ (s .pre .0)),
       l .before .loop .inv .1 ∙ flow-next _ _ _ _ (s .pre .2) (la s) (lp s) (l .before .loop .sum) (l .before .loop .i) (l .loop-test .taken) (task-is w) (piece-is _ _ _ _ _ (add-one _) (l .loop-test .taken)) (c .before .before .before .path-finish .ensures) _ (c .before .t .given .1),
     )
 

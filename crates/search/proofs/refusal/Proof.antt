@@ -5,25 +5,25 @@ use native.Mathlib.Nat.{mul-le-mul}
 use native.Mathlib.Numerals.{add-one}
 use native.Mathlib.Omega.{arith}
 use borrow.Author.Needs.{needs}
-use Rattle.deck.specs.Sheet.{read, cause}
-use Rattle.deck.specs.Calls.{planWords, workspaceFor}
+use Rattle.deck.specs.Sheet.{read, sheetCause}
+use Rattle.deck.specs.Calls.{planWords, workspaceOf}
 use Rattle.search.proofs.Calling.{cause-first, cause-work, cause-out, cause-none}
 use Rattle.search.proofs.refusal.Statement.{statement}
 use Rattle.search.proofs.refusal.Tie as tie
 
 -- no cause lies in the sheet
-accepted : (c : tie.Else1) → cause (c .before .before .before .args .s .now) ≡ 0
+accepted : (c : tie.Else1) → sheetCause (c .before .before .before .args .s .now) ≡ 0
 accepted c = sym (c .before .cause .ensures) ∙ c .if1 .left
 
 -- the words of workspace that the sheet asks for
-room-is : (c : tie.After-workspace) → c .workspace .result ≡ workspaceFor (read (c .before .before .before .before .args .s .now))
+room-is : (c : tie.After-workspace) → c .workspace .result ≡ workspaceOf (read (c .before .before .before .before .args .s .now))
 room-is c = c .workspace .ensures .0
 
 -- the words of a plan
 words-are : (c : tie.After-horizon) → c .before .count .result * (c .horizon .result + 1) ≡ planWords (read (c .before .before .before .before .before .before .args .s .now))
 words-are c = rw (c .before .count .ensures .0, c .horizon .ensures .0, add-one) refl
 
-enough : (c : tie.Else2) → let a = c .before .before .before .before .before .before .before .args in workspaceFor (read (a .s .now)) ≤ a .work
+enough : (c : tie.Else2) → let a = c .before .before .before .before .before .before .before .args in workspaceOf (read (a .s .now)) ≤ a .work
 enough c = omega (arith, c .if2 .left, room-is (c .before .before .before))
 
 cause-requires : tie.Need-cause-requires

@@ -5,7 +5,7 @@ use mathlib.Core.Path.{_≡_, refl, _∙_, ap}
 use native.Mathlib.Omega.{arith}
 use Rattle.deck.specs.Sheet.{pairAt}
 use Rattle.deck.specs.Calls.{mostPairs}
-use Rattle.sheet.proofs.Accepted.{count-range}
+use Rattle.meaning.proofs.Dark.{most-carriers}
 use Rattle.sheet.proofs.Fills.{fill-more}
 use Rattle.sheet.proofs.Readings.{offsetsTo, lengthsTo, accepted}
 use borrow.Author.Needs.{needs}
@@ -25,7 +25,7 @@ pairs-requires c κs = search needs
 loop-holds : tie.Need-loop-holds Inv-loop μ-loop
 loop-holds c =
     let a = c .before .before in
-    (omega arith, omega (arith, count-range (a .args .s .now) (a .pre)), refl, refl)
+    (omega arith, omega (arith, most-carriers (a .args .s .now) (a .pre)), refl, refl)
 
 pair-offset-requires : tie.Need-pair-offset-requires Inv-loop μ-loop
 pair-offset-requires c κs = search needs

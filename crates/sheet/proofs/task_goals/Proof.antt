@@ -1,6 +1,6 @@
 -- `sheet::task_goals` meets its contract: of an accepted sheet the part of the task, else the empty part. Assumes nothing.
 use mathlib.Core.Path.{_≡_, refl, sym, _∙_}
-use Rattle.deck.specs.Sheet.{cause}
+use Rattle.deck.specs.Sheet.{sheetCause}
 use Rattle.sheet_parts.proofs.Tasks.{goals-accepted, goals-refused, part-begins}
 use borrow.Author.Needs.{needs}
 use Rattle.sheet.proofs.task_goals.Statement.{statement}
@@ -24,7 +24,7 @@ part-result-end c = search needs
 returns : tie.Need-returns
 returns c =
     let a = c .before .before .before .before .args in
-    let ok : cause (a .s .now) ≡ 0 = sym (c .before .before .cause .ensures) ∙ c .before .if1 .taken in
+    let ok : sheetCause (a .s .now) ≡ 0 = sym (c .before .before .cause .ensures) ∙ c .before .if1 .taken in
     rw (goals-accepted (a .s .now) (a .j) ok) (c .task-part .ensures .0, c .task-part .ensures .1 .0 (part-begins (a .s .now) (a .j) ok))
 
 returns-2 : tie.Need-returns-2
