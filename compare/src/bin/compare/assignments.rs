@@ -31,6 +31,11 @@ pub fn run(share: &Share) -> Tally {
         one(&mut tally, count, &entries, seed);
         in_order(&mut tally, count, &entries, seed, &mut rng);
     }
+    // A table of 0 by 0, whose count is outside its range.
+    for seed in share.seeds(30) {
+        one(&mut tally, 0, &[], seed);
+        in_order(&mut tally, 0, &[], seed, &mut Rng::new(seed));
+    }
     tally
 }
 

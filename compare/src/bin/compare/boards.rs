@@ -7,10 +7,10 @@ use compare::theirs::board_numbers;
 use compare::{gate_board, search};
 use other::board;
 use other::gen::Rng;
-use other::{generated, kinds, PLENTY, RULES};
+use other::{generated, PLENTY, RULES};
 
-use crate::searches::{asked, kind, LIMITS, PAST};
-use crate::{lines, Share, Tally};
+use crate::searches::{asked, kind, workspace_stays, LIMITS, PAST};
+use crate::{kinds, lines, Share, Tally};
 
 pub fn run(share: &Share) -> Tally {
     let mut tally = Tally::default();
@@ -25,7 +25,7 @@ pub fn run(share: &Share) -> Tally {
 /// The other author's kinds, with buffers of every length, under their own node limit and another.
 fn of_kinds(share: &Share, tally: &mut Tally, work: &mut [u32]) {
     for seed in share.seeds(1500) {
-        for kind in kinds() {
+        for kind in kinds(seed) {
             let most = match kind {
                 "max" => 3,
                 "full" => 12,
@@ -88,7 +88,8 @@ fn all_lengths(bytes: &[u8]) -> [(usize, usize); 6] {
 }
 
 /// Calls the other planner's board, this planner's, and this planner's search with the same sheet and lengths. The workspace holds
-/// what other sheets' calls left, or anything; after a refusal all of it must be as it was, and always what lies past it.
+/// what other sheets' calls left, or anything; after a refusal, and of no bytes, all of it must be as it was, and always what lies past
+/// it.
 fn one(
     tally: &mut Tally,
     work: &mut [u32],
@@ -100,7 +101,7 @@ fn one(
     let (mut theirs, mut out, mut searched) = (old.clone(), old.clone(), old);
     let board = board::gate_board(RULES, bytes, &mut work[..words], &mut theirs[..places]);
     let expected = board_numbers(&board);
-    let free = if expected.0[0] == 0 { words } else { 0 };
+    let free = if workspace_stays(bytes, &expected.0) { 0 } else { words };
     let before = work[free..words + PAST].to_vec();
     let ours = gate_board(bytes, &mut work[..words], &mut out[..places]);
     let stays = work[free..words + PAST] == before;

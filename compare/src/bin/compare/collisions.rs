@@ -29,6 +29,10 @@ pub fn run(share: &Share) -> Tally {
         }
         one(&mut tally, count, h as u8, &paths, seed);
     }
+    // No carriers and no paths: the words are as many as there should be, but the count is outside its range.
+    for h in share.seeds(256) {
+        one(&mut tally, 0, h as u8, &[], h);
+    }
     tally
 }
 

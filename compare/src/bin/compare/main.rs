@@ -4,6 +4,7 @@
 mod assignments;
 mod boards;
 mod collisions;
+mod dark;
 mod lines;
 mod paths;
 mod plans;
@@ -13,6 +14,9 @@ mod sheets;
 use std::collections::BTreeMap;
 use std::process::ExitCode;
 
+use other::sheet::{read_sheet, Sheet};
+use other::RULES;
+
 /// What one part found.
 #[derive(Default)]
 pub struct Tally {
@@ -20,7 +24,7 @@ pub struct Tally {
     failed: u64,
     /// How often each kind of answer came.
     kinds: BTreeMap<String, u64>,
-    /// How many of the comparisons had what is counted besides, such as lanes on the sheet.
+    /// How many of the comparisons had what is counted besides, such as lanes on the sheet, or no bytes.
     having: BTreeMap<&'static str, u64>,
     /// The first failures, in words.
     seen: Vec<String>,
@@ -31,6 +35,9 @@ impl Tally {
     pub fn count_on(&mut self, sheet: &[u8], ok: bool, kind: String, what: impl Fn() -> String) {
         if other::has_lanes(sheet) {
             self.note("lanes");
+        }
+        if sheet.is_empty() {
+            self.note("no bytes");
         }
         self.count(ok, kind, what);
     }
@@ -76,6 +83,16 @@ impl Share {
     }
 }
 
+/// The kinds of sheet that a seed makes. The dark house is one sheet, so that only the first seed makes it.
+pub fn kinds(seed: u64) -> impl Iterator<Item = &'static str> {
+    other::kinds().filter(move |&kind| kind != "dark" || seed == 0)
+}
+
+/// An accepted sheet that has carriers: any but the dark house.
+pub fn with_carriers(bytes: &[u8]) -> Option<Sheet<'_>> {
+    read_sheet(RULES, bytes).ok().filter(|sheet| !sheet.is_dark())
+}
+
 type Part = (&'static str, fn(&Share) -> Tally);
 
 const PARTS: &[Part] = &[
@@ -86,6 +103,7 @@ const PARTS: &[Part] = &[
     ("plan checks", plans::run),
     ("searches", searches::run),
     ("gate boards", boards::run),
+    ("dark house, and sheets of one to seven bytes", dark::run),
 ];
 
 /// Each part's seeds are split over this many threads; what is compared does not depend on it.

@@ -6,10 +6,10 @@ use compare::least_path;
 use compare::theirs::path_numbers;
 use other::gen::Rng;
 use other::path::{self, PathKind};
-use other::sheet::{read_sheet, Carrier, Sheet, Task};
-use other::{generated, kinds, PLENTY, RULES};
+use other::sheet::{Carrier, Sheet, Task};
+use other::{generated, PLENTY, RULES};
 
-use crate::{kind_of, Share, Tally};
+use crate::{kind_of, kinds, with_carriers, Share, Tally};
 
 /// Words after the lent ones, which no call may touch.
 const PAST: usize = 8;
@@ -25,7 +25,7 @@ pub fn run(share: &Share) -> Tally {
     let mut lent = Lent { work: vec![0; PLENTY + 2 * PAST], out: Vec::new() };
     junk(&mut lent.work, &mut rng);
     for seed in share.seeds(800) {
-        for kind in kinds() {
+        for kind in kinds(seed) {
             let large = matches!(kind, "full" | "max");
             if large && seed >= 60 || kind == "medium" && seed >= 150 {
                 continue;
@@ -46,7 +46,8 @@ fn sheet_cases(
     rng: &mut Rng,
     name: impl Fn() -> String,
 ) {
-    let Ok(sheet) = read_sheet(RULES, bytes) else {
+    // Without carriers it is refused whatever else is lent, like a bad sheet.
+    let Some(sheet) = with_carriers(bytes) else {
         one(tally, lent, bytes, 0, 0, 100_000, 300, &[], true, &name);
         return;
     };

@@ -8,15 +8,15 @@ use other::check;
 use other::gen::Rng;
 use other::path::PathFinder;
 use other::search::{search, SearchKind};
-use other::sheet::{read_sheet, Carrier, Sheet, Task};
-use other::{generated, kinds, RULES};
+use other::sheet::{Carrier, Sheet, Task};
+use other::{generated, RULES};
 
-use crate::{kind_of, Share, Tally};
+use crate::{kind_of, kinds, with_carriers, Share, Tally};
 
 pub fn run(share: &Share) -> Tally {
     let mut tally = Tally::default();
     for seed in share.seeds(250) {
-        for kind in kinds() {
+        for kind in kinds(seed) {
             let large = matches!(kind, "medium" | "full" | "max");
             if large && seed >= 12 {
                 continue;
@@ -25,8 +25,9 @@ pub fn run(share: &Share) -> Tally {
             let bytes = if large { with_limit(&bytes, 40) } else { bytes };
             let mut rng = Rng::new(7000 + seed);
             let name = || format!("{kind} {seed}");
-            let Ok(sheet) = read_sheet(RULES, &bytes) else {
+            let Some(sheet) = with_carriers(&bytes) else {
                 one(&mut tally, &bytes, &[255; 12], &[0; 30], &name);
+                one(&mut tally, &bytes, &[255; 12], &[], &name);
                 continue;
             };
             let (tasks, paths) = planned(&bytes, &sheet).unwrap_or_else(|| least_paths(&sheet, &mut rng));

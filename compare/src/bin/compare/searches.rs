@@ -6,9 +6,9 @@ use compare::search;
 use compare::theirs::search_numbers;
 use other::gen::Rng;
 use other::sheet::read_sheet;
-use other::{generated, kinds, naive, PLENTY, RULES};
+use other::{generated, naive, PLENTY, RULES};
 
-use crate::{Share, Tally};
+use crate::{kinds, with_carriers, Share, Tally};
 
 /// Words after the lent ones, which no call may touch.
 pub const PAST: usize = 8;
@@ -27,7 +27,7 @@ pub fn run(share: &Share) -> Tally {
     let mut lent = Lent { work: vec![0; PLENTY + PAST], out: Vec::new() };
     junk(&mut lent.work, &mut rng);
     for seed in share.seeds(1500) {
-        for kind in kinds() {
+        for kind in kinds(seed) {
             let most = match kind {
                 "max" => 6,
                 "full" => 24,
@@ -99,6 +99,11 @@ pub fn kind(numbers: &[u32; 17]) -> String {
     kinds.get(numbers[1] as usize).map_or_else(|| format!("cause {}", numbers[0]), |kind| kind.to_string())
 }
 
+/// Whether every word of the workspace must stay: the call is refused, or it needs none, as a round without carriers.
+pub fn workspace_stays(bytes: &[u8], numbers: &[u32; 17]) -> bool {
+    numbers[0] != 0 || bytes.is_empty()
+}
+
 /// Both with buffers that are `more` words longer than asked for.
 fn one(
     tally: &mut Tally,
@@ -112,9 +117,9 @@ fn one(
     call(tally, lent, bytes, (words + more_work).min(PLENTY), places + more_out, name)
 }
 
-/// One word short, of the workspace, of the output, and of both.
+/// One word short, of the workspace, of the output, and of both. Nothing is short for a round without carriers.
 fn short(tally: &mut Tally, lent: &mut Lent, bytes: &[u8], name: &dyn Fn() -> String) {
-    let Ok(sheet) = read_sheet(RULES, bytes) else { return };
+    let Some(sheet) = with_carriers(bytes) else { return };
     let (words, places) = (sheet.workspace_words(), sheet.m * (sheet.horizon + 1));
     for (words, places) in [(words - 1, places), (words, places - 1), (words - 1, places - 1)] {
         call(tally, lent, bytes, words, places, name);
@@ -135,7 +140,7 @@ fn call(
     let mut expected = lent.out.clone();
     let answer = other::search::search(RULES, bytes, &mut lent.work[..words], &mut expected[..places]);
     let numbers = search_numbers(&answer);
-    let before = (numbers[0] != 0).then(|| lent.work[..words].to_vec());
+    let before = workspace_stays(bytes, &numbers).then(|| lent.work[..words].to_vec());
     let guard: [u32; PAST] = std::array::from_fn(|k| lent.work[words + k]);
     let ours = search(bytes, &mut lent.work[..words], &mut lent.out[..places]);
     let stays = before.is_none_or(|before| before[..] == lent.work[..words]);

@@ -3,14 +3,14 @@
 use compare::{cause, task_goals, workspace};
 use other::gen::Rng;
 use other::sheet::{self, read_sheet, Task};
-use other::{generated, kinds, RULES};
+use other::{generated, RULES};
 
-use crate::{Share, Tally};
+use crate::{kinds, Share, Tally};
 
 pub fn run(share: &Share) -> Tally {
     let mut tally = Tally::default();
     for seed in share.seeds(1500) {
-        for kind in kinds() {
+        for kind in kinds(seed) {
             let large = matches!(kind, "medium" | "full" | "max");
             if large && seed >= 300 {
                 continue;
@@ -43,7 +43,7 @@ fn one(tally: &mut Tally, bytes: &[u8], name: impl Fn() -> String) {
     let words = read.as_ref().map_or(0, |sheet| sheet.workspace_words());
     let count = read.as_ref().map_or(1, |sheet| sheet.m);
     let mut ok = cause(bytes) == number && workspace(bytes) == words;
-    for task in (0..=count).chain([255, 65536, usize::MAX]) {
+    for task in (0..=count).chain([11, 12, 255, 65536, usize::MAX]) {
         let goals = sheet::task_goals(RULES, bytes, Task(task));
         let offset = goals.as_ptr() as usize - bytes.as_ptr() as usize;
         ok &= task_goals(bytes, task) == [offset, goals.len()];
