@@ -197,7 +197,12 @@ fn searches() -> Vec<Named> {
             })
         })
     });
-    kinds.chain(maps).collect()
+    // A call that is too short to be timed alone.
+    let dark = named("search dark house", || Case {
+        varied: false,
+        ..whole(vec![Vec::new()], our_search, their_search)
+    });
+    kinds.chain(maps).chain([dark]).collect()
 }
 
 /// Gate boards beside another call, on sheets whose searches are cheap, so that what a board adds has the greatest share.
