@@ -1,5 +1,5 @@
 /* Plans one job sheet, with as much workspace as it asks for, and prints the listing of document 01; then, of a plan, the gate
- * board: a line for each car, the first to arrive first.
+ * board: a line for each car, the first to arrive first. A sheet of no bytes is a dark house, whose plan has no carriers.
  *
  *     cc -std=c99 -Wall -Wextra -pedantic -Iinclude examples/c/round.c target/staticlib/libplanner.a -o round
  *     ./round < sheet
@@ -37,35 +37,8 @@ static void print_board(const uint32_t *lines, size_t m)
                lines[3]);
 }
 
-int main(void)
+static void print_answer(const uint32_t *answer, const uint16_t *paths, const uint32_t *lines, size_t m, size_t steps)
 {
-    uint8_t sheet[MOST_BYTES + 1];
-    size_t bytes = fread(sheet, 1, sizeof sheet, stdin);
-    if (ferror(stdin)) {
-        fprintf(stderr, "round: the sheet cannot be read\n");
-        return 4;
-    }
-    uint32_t cause = planner_cause(sheet, bytes);
-    if (cause != 0) {
-        printf("refused %" PRIu32 "\n", cause);
-        return 3;
-    }
-
-    size_t m = sheet[2], steps = (size_t)sheet[3] + 1; /* an accepted sheet has its header */
-    size_t words = planner_workspace(sheet, bytes);
-    uint32_t *work = malloc(words * sizeof *work);
-    uint16_t *paths = malloc(m * steps * sizeof *paths);
-    if (work == NULL || paths == NULL) {
-        fprintf(stderr, "round: no memory for %zu words of workspace\n", words);
-        free(work);
-        free(paths);
-        return 4;
-    }
-
-    /* The cause, the kind, the flowtime, the nodes, the bound, and the task of each of twelve carriers; then the board, four
-     * numbers to a line: gate, carrier, task, finish. planner_search takes and writes the same without a board. */
-    uint32_t answer[17], lines[48];
-    planner_gate_board(sheet, bytes, work, words, paths, m * steps, answer, lines);
     switch (answer[1]) {
     case 0:
         printf("plan %" PRIu32 " nodes %" PRIu32 "\n", answer[2], answer[3]);
@@ -81,6 +54,40 @@ int main(void)
     default:
         printf("refused %" PRIu32 "\n", answer[0]);
     }
+}
+
+int main(void)
+{
+    uint8_t sheet[MOST_BYTES + 1];
+    size_t bytes = fread(sheet, 1, sizeof sheet, stdin);
+    if (ferror(stdin)) {
+        fprintf(stderr, "round: the sheet cannot be read\n");
+        return 4;
+    }
+    uint32_t cause = planner_cause(sheet, bytes);
+    if (cause != 0) {
+        printf("refused %" PRIu32 "\n", cause);
+        return 3;
+    }
+
+    /* An accepted sheet has its header, but for the dark house: no bytes, no carriers, no words of workspace or paths. */
+    size_t m = bytes > 0 ? sheet[2] : 0, steps = bytes > 0 ? (size_t)sheet[3] + 1 : 0;
+    size_t words = planner_workspace(sheet, bytes);
+    /* One word more than is lent, since malloc(0) may be NULL, and no call takes a null pointer. */
+    uint32_t *work = malloc((words + 1) * sizeof *work);
+    uint16_t *paths = malloc((m * steps + 1) * sizeof *paths);
+    if (work == NULL || paths == NULL) {
+        fprintf(stderr, "round: no memory for %zu words of workspace\n", words);
+        free(work);
+        free(paths);
+        return 4;
+    }
+
+    /* The cause, the kind, the flowtime, the nodes, the bound, and the task of each of twelve carriers; then the board, four
+     * numbers to a line: gate, carrier, task, finish. planner_search takes and writes the same without a board. */
+    uint32_t answer[17], lines[48];
+    planner_gate_board(sheet, bytes, work, words, paths, m * steps, answer, lines);
+    print_answer(answer, paths, lines, m, steps);
     free(work);
     free(paths);
     return (int)answer[1];

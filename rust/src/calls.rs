@@ -1,6 +1,6 @@
 //! The exported calls as they are, on slices and lists of numbers; `include/planner.h` says what each is lent and what its numbers
-//! are. A slice of Rust is never null and is aligned, its length is true, and a `&mut` overlaps nothing else that is lent: so every
-//! call here keeps the header's rules, whatever it is given. Lists of fixed length are arrays, so they are whole.
+//! are. A slice of Rust is never null and is aligned, an empty one too, its length is true, and a `&mut` overlaps nothing else that is
+//! lent: so every call here keeps the header's rules, whatever it is given. Lists of fixed length are arrays, so they are whole.
 
 mod exported {
     extern "C" {
@@ -79,7 +79,7 @@ pub fn cause(sheet: &[u8]) -> u32 {
     unsafe { exported::planner_cause(sheet.as_ptr(), sheet.len()) }
 }
 
-/// How many words of workspace the sheet asks for; 0 for a refused sheet.
+/// How many words of workspace the sheet asks for; 0 for the sheet of no bytes and for a refused one, which [`cause`] tells apart.
 pub fn workspace(sheet: &[u8]) -> usize {
     // SAFETY: the slice is lent whole and only read.
     unsafe { exported::planner_workspace(sheet.as_ptr(), sheet.len()) }

@@ -36,7 +36,7 @@ pub enum Cause {
 
 /// Every known cause with its number and words, in the order in which they are tried.
 const TABLE: [(Cause, u32, &str); 12] = [
-    (Cause::Short, 1, "under 8 bytes"),
+    (Cause::Short, 1, "one to seven bytes"),
     (Cause::Header, 2, "header byte outside its range"),
     (Cause::Directory, 3, "directory cut off or breaking a pair's rule"),
     (Cause::Grid, 4, "grid byte above 5"),

@@ -64,6 +64,7 @@ pub enum Unfit {
 #[derive(Clone, PartialEq, Eq, Debug)]
 #[non_exhaustive]
 pub enum Fault {
+    /// One to seven bytes; a sheet of none is the dark house.
     Length {
         bytes: usize,
     },
@@ -173,6 +174,7 @@ impl fmt::Display for Unfit {
 impl fmt::Display for Fault {
     fn fmt(&self, f: &mut fmt::Formatter<'_>) -> fmt::Result {
         match *self {
+            Fault::Length { bytes: 1 } => write!(f, "the sheet has 1 byte, its header alone has 8"),
             Fault::Length { bytes } => write!(f, "the sheet has {bytes} bytes, its header alone has 8"),
             Fault::Header { byte, field, value } => {
                 let (name, range) = field.words();

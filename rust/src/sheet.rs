@@ -39,7 +39,7 @@ impl fmt::Display for Place {
     }
 }
 
-/// A job sheet that the planner accepts.
+/// A job sheet that the planner accepts; that of no bytes is the dark house, [`Sheet::dark`].
 #[derive(Clone, PartialEq, Eq, Hash, Debug)]
 pub struct Sheet {
     bytes: Vec<u8>,
@@ -53,6 +53,26 @@ impl Sheet {
             Ok(()) => Ok(Sheet { bytes }),
             Err(cause) => Err(fault::locate(cause, &bytes)),
         }
+    }
+
+    /// The sheet of no bytes, of a day without a performance: a round without carriers, tasks and floor. Every number of it is 0, it
+    /// asks for no workspace and no output, and the empty plan is its only plan. A least path on it has cause 8.
+    ///
+    /// ```
+    /// use carrier_planner::{Planner, Sheet};
+    /// let sheet = Sheet::new([])?;
+    /// assert_eq!(sheet, Sheet::dark());
+    /// assert_eq!((sheet.m(), sheet.workspace()), (0, 0));
+    /// assert_eq!(Planner::within(&mut []).search(&sheet)?.to_string(), "plan 0 nodes 0\n");
+    /// # Ok::<(), Box<dyn std::error::Error>>(())
+    /// ```
+    pub fn dark() -> Sheet {
+        Sheet { bytes: Vec::new() }
+    }
+
+    /// Whether it is the sheet of no bytes, the only one without carriers.
+    pub fn is_dark(&self) -> bool {
+        self.bytes.is_empty()
     }
 
     /// A builder for a floor of this size, without blocked places and lanes.
@@ -76,7 +96,7 @@ impl Sheet {
         layout::byte(&self.bytes, layout::HEIGHT)
     }
 
-    /// How many carriers there are, and as many tasks.
+    /// How many carriers there are, and as many tasks: 1 to 12, and 0 of the dark house.
     pub fn m(&self) -> usize {
         layout::byte(&self.bytes, layout::COUNT)
     }
@@ -152,7 +172,7 @@ impl Sheet {
         bytes.chunks_exact(2).map(|two| Place(u16::from_le_bytes([two[0], two[1]]))).collect()
     }
 
-    /// How many words of workspace a search or a least path on this sheet asks for.
+    /// How many words of workspace a search or a least path on this sheet asks for; 0 of the dark house.
     pub fn workspace(&self) -> usize {
         calls::workspace(&self.bytes)
     }
@@ -162,7 +182,7 @@ impl Sheet {
         self.m() * (self.horizon() + 1)
     }
 
-    /// The same sheet with another node limit.
+    /// The same sheet with another node limit. The dark house has none, and is given back as it is.
     pub fn with_node_limit(&self, limit: u16) -> Result<Sheet, Refusal> {
         let mut bytes = self.bytes.clone();
         for (byte, value) in bytes.iter_mut().skip(layout::LIMIT).zip(limit.to_le_bytes()) {

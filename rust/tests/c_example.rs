@@ -12,10 +12,12 @@ fn top() -> PathBuf {
     Path::new(env!("CARGO_MANIFEST_DIR")).join("..")
 }
 
-fn compile(program: &Path) {
+/// Compiles the example, with these arguments more.
+fn compile(program: &Path, more: &[&str]) {
     let archives =
         std::env::var_os("PLANNER_LIB_DIR").map_or_else(|| top().join("target/staticlib"), PathBuf::from);
     let done = Command::new(std::env::var("CC").unwrap_or_else(|_| "cc".into()))
+        .args(more)
         .args(["-std=c99", "-O2", "-Wall", "-Wextra", "-pedantic", "-Werror", "-I"])
         .arg(top().join("include"))
         .arg(top().join("examples/c/round.c"))
@@ -36,10 +38,15 @@ fn run(program: &Path, sheet: &[u8]) -> (Option<i32>, String) {
     (done.status.code(), String::from_utf8_lossy(&done.stdout).into_owned())
 }
 
+/// A file in the tests' folder.
+fn file(name: &str) -> PathBuf {
+    Path::new(env!("CARGO_TARGET_TMPDIR")).join(name)
+}
+
 #[test]
 fn prints_the_listing_and_the_board() {
-    let program = Path::new(env!("CARGO_TARGET_TMPDIR")).join("round");
-    compile(&program);
+    let program = file("round");
+    compile(&program, &[]);
     for kind in kinds() {
         let seeds = if matches!(kind, "max" | "full") { 1 } else { 15 };
         for seed in 0..seeds {
@@ -57,4 +64,29 @@ fn prints_the_listing_and_the_board() {
     }
     let (code, printed) = run(&program, &[1; 2000]);
     assert_eq!((code, printed.as_str()), (Some(3), "refused 2\n"));
+}
+
+/// What C allows and most machines do not show: malloc(0) is a null pointer, and past the bytes that were read anything stands.
+const HARSH: &str = "#include <stdio.h>
+#include <stdlib.h>
+#include <string.h>
+static void *harsh_malloc(size_t bytes) { return bytes == 0 ? NULL : malloc(bytes); }
+static size_t harsh_fread(void *to, size_t size, size_t count, FILE *from)
+{
+    memset(to, 12, size * count);
+    return fread(to, size, count, from);
+}
+#define malloc harsh_malloc
+#define fread harsh_fread
+";
+
+#[test]
+fn a_dark_house() {
+    let (program, harsh) = (file("dark"), file("harsh.h"));
+    std::fs::write(&harsh, HARSH).expect("the tests' folder can be written");
+    for more in [&[][..], &["-include", harsh.to_str().expect("a plain name")]] {
+        compile(&program, more);
+        assert_eq!(run(&program, &[]), (Some(0), "plan 0 nodes 0\n".to_string()), "{more:?}");
+        assert_eq!(run(&program, &[0]), (Some(3), "refused 1\n".to_string()), "{more:?}");
+    }
 }

@@ -8,7 +8,8 @@ use other::generated;
 fn any_bytes() {
     let mut rng = Rng::new(10);
     for case in 0..20_000 {
-        let mut bytes: Vec<u8> = (0..rng.range(0, 60)).map(|_| rng.range(0, 255) as u8).collect();
+        // No bytes are a sheet.
+        let mut bytes: Vec<u8> = (0..rng.range(1, 60)).map(|_| rng.range(0, 255) as u8).collect();
         if rng.chance(1, 2) {
             // A header that passes, so that the directory is looked at.
             let good = [3, 2, rng.range(1, 12) as u8, 4, 9, 0, 0, 0];
@@ -110,6 +111,72 @@ fn short_buffers_of_a_gate_board() {
     let (mut work, mut out) = (vec![77; words], vec![78; 2]);
     let (numbers, lines) = calls::gate_board(sheet.bytes(), &mut work, &mut out);
     assert_eq!((&numbers[..6], lines, out), (&[0, 0, 0, 1, 0, 0][..], [0; 48], vec![0, 78]));
+}
+
+/// The lists of constraints: none, one that breaks the rule of fives, and one of a carrier that there is not.
+const RECORDS: [&[u16]; 3] = [&[], &[7], &[0, 0, 0, 0, 0]];
+
+/// Cause 8 for every carrier and task, and not those that come after it, for every length of what is lent.
+#[test]
+fn a_dark_house_has_no_word_written() {
+    let plan = [&[0; 5][..], &[255; 12]].concat();
+    for (words, places) in [(0, 0), (0, 3), (1, 0), (1, 1), (4095, 12), (4096, 3072), (5000, 4000)] {
+        let (mut work, mut out) = (vec![77; words], vec![78; places]);
+        assert_eq!(calls::search(&[], &mut work, &mut out)[..], plan);
+        let (numbers, lines) = calls::gate_board(&[], &mut work, &mut out);
+        assert_eq!((&numbers[..], lines), (&plan[..], [0; 48]));
+        for (carrier, task) in [(0, 0), (11, 3), (usize::MAX, 0), (0, usize::MAX)] {
+            for records in RECORDS {
+                let numbers = calls::least_path(&[], carrier, task, &mut work, &mut out, records);
+                assert_eq!(numbers, [8, 0, 0], "carrier {carrier}, task {task}, {records:?}");
+            }
+        }
+        let stay = work.iter().all(|&word| word == 77) && out.iter().all(|&word| word == 78);
+        assert!(stay, "{words} words of workspace and {places} of output");
+    }
+}
+
+#[test]
+fn a_dark_house_in_the_other_calls() {
+    assert_eq!((calls::cause(&[]), calls::workspace(&[])), (0, 0));
+    for task in [0, 1, 12, usize::MAX] {
+        assert_eq!(calls::task_goals(&[], task), [0, 0]);
+    }
+    assert_eq!(calls::check_plan(&[], &[255; 12], &[]), [0, 1, 0]);
+    for (place, task) in (0..12).flat_map(|place| [0, 11, 12, 254].map(|task| (place, task))) {
+        let mut tasks = [255; 12];
+        tasks[place] = task;
+        assert_eq!(calls::check_plan(&[], &tasks, &[]), [0, 0, 0], "{tasks:?}");
+        assert_eq!(calls::check_plan(&[], &tasks, &[0]), [11, 0, 0], "{tasks:?}");
+    }
+    for words in [1, 12, 256, 3072] {
+        assert_eq!(calls::check_plan(&[], &[255; 12], &vec![0; words]), [11, 0, 0], "{words} words");
+    }
+    // These take a count and no sheet: a count of 0 stays cause 12.
+    assert_eq!(calls::first_collision(0, 0, &[]), [12, 0, 0, 0, 0, 0, 0, 0]);
+    assert_eq!(calls::least_assignment(0, &[]).numbers, [12, 0, 0]);
+    assert_eq!(calls::assignments_in_order(0, &[], &mut [], &mut []), [12, 0]);
+}
+
+/// What is left of cause 1.
+#[test]
+fn one_to_seven_bytes() {
+    let answer = [&[1, 3, 0, 0, 0][..], &[255; 12]].concat();
+    for (length, byte) in (1..8).flat_map(|length| [0, 1, 255].map(|byte| (length, byte))) {
+        let bytes = vec![byte; length];
+        let refusal = Sheet::new(bytes.as_slice()).expect_err("too short");
+        assert_eq!((refusal.cause, refusal.fault), (Cause::Short, Some(Fault::Length { bytes: length })));
+        let (mut work, mut out) = (vec![77; 9], vec![78; 9]);
+        assert_eq!(calls::search(&bytes, &mut work, &mut out)[..], answer);
+        let (numbers, lines) = calls::gate_board(&bytes, &mut work, &mut out);
+        assert_eq!((&numbers[..], lines), (&answer[..], [0; 48]));
+        assert_eq!(calls::least_path(&bytes, 0, 0, &mut work, &mut out, &[]), [1, 0, 0]);
+        assert_eq!((work, out), (vec![77; 9], vec![78; 9]));
+        assert_eq!(calls::check_plan(&bytes, &[255; 12], &[]), [1, 0, 0]);
+        assert_eq!((calls::workspace(&bytes), calls::task_goals(&bytes, 0)), (0, [0, 0]));
+    }
+    let said = "cause 1: one to seven bytes: the sheet has 1 byte, its header alone has 8";
+    assert_eq!(Sheet::new([0]).expect_err("too short").to_string(), said);
 }
 
 /// As much stack as the header says is enough, on the sheets with the longest paths.

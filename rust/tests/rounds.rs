@@ -1,6 +1,8 @@
-//! The rounds that document 01 works out.
+//! The rounds that document 01 works out, and the dark house of document 02.
 
-use carrier_planner::{calls, Answer, Carrier, Cause, GateLine, Place, Planner, Sheet, SheetBuilder, Task};
+use carrier_planner::{
+    calls, Answer, Carrier, Cause, Constraint, GateLine, NotAPlan, Place, Planner, Sheet, SheetBuilder, Task,
+};
 
 fn listing(builder: &SheetBuilder) -> String {
     let sheet = builder.build().expect("an accepted sheet");
@@ -121,5 +123,71 @@ fn round_8() {
         assert_eq!(Sheet::new([2, 2, m, 3, 18, 0, 0, 0]).map_err(|refusal| refusal.cause), Err(cause));
     }
     let short = Sheet::new([0; 7]).expect_err("seven bytes");
-    assert_eq!(short.to_string(), "cause 1: under 8 bytes: the sheet has 7 bytes, its header alone has 8");
+    assert_eq!(
+        short.to_string(),
+        "cause 1: one to seven bytes: the sheet has 7 bytes, its header alone has 8"
+    );
+}
+
+#[test]
+fn a_dark_house() {
+    let sheet = Sheet::dark();
+    let mut planner = Planner::new();
+    let answer = planner.search(&sheet).expect("accepted");
+    let printed = "plan 0 nodes 0\n";
+    assert_eq!((answer.to_string().as_str(), answer.nodes(), answer.bound()), (printed, 0, 0));
+    let board = planner.gate_board(&sheet).expect("accepted");
+    assert_eq!((board.to_string().as_str(), board.lines(), board.answer()), (printed, &[][..], &answer));
+    let plan = answer.into_plan().expect("the empty plan");
+    assert_eq!((plan.flowtime(), plan.tasks(), plan.paths().count()), (0, &[][..], 0));
+    assert_eq!(
+        (plan.path(Carrier(0)), plan.task(Carrier(0)), plan.finish(Carrier(0))),
+        (&[][..], None, None)
+    );
+    // It needs no workspace, and a planner with one plans it too, before and after other sheets.
+    assert_eq!(
+        Planner::within(&mut []).search(&sheet).map(|answer| answer.into_plan()),
+        Ok(Some(plan.clone()))
+    );
+    assert!(change(2, 3, 18).build().is_ok_and(|six| planner.search(&six).is_ok()));
+    assert_eq!(planner.gate_board(&sheet), Ok(board));
+    // The empty plan is its only plan.
+    assert_eq!(sheet.check::<[Place; 0]>(&[], &[]), Ok(plan));
+    assert_eq!(sheet.check::<[Place; 0]>(&[], &[[]]), Err(NotAPlan::Refused(Cause::Output)));
+    assert_eq!(sheet.check(&[], &[[Place(0)]]), Err(NotAPlan::Refused(Cause::Output)));
+    let counts = NotAPlan::Count { given: 1, carriers: 0 };
+    assert_eq!(sheet.check(&[Task(0)], &[[Place(0)]]), Err(counts));
+    // There is no carrier and no task: cause 8, before that of a bad constraint.
+    let bad = Constraint::Place { carrier: Carrier(0), place: Place(0), time: 0 };
+    for planner in [&mut planner, &mut Planner::within(&mut [])] {
+        for constraints in [&[][..], &[bad]] {
+            assert_eq!(planner.least_path(&sheet, Carrier(0), Task(0), constraints), Err(Cause::Number));
+        }
+    }
+}
+
+#[test]
+fn what_stands_in_a_dark_house() {
+    let sheet = Sheet::dark();
+    assert_eq!((sheet.is_dark(), sheet.bytes(), sheet.as_ref()), (true, &[][..], &[][..]));
+    assert_eq!((Sheet::new([]), Sheet::try_from(Vec::new())), (Ok(sheet.clone()), Ok(sheet.clone())));
+    assert_eq!((sheet.width(), sheet.height(), sheet.m(), sheet.horizon()), (0, 0, 0, 0));
+    assert_eq!((sheet.node_limit(), sheet.area(), sheet.workspace(), sheet.output()), (0, 0, 0, 0));
+    assert_eq!((sheet.carriers().count(), sheet.tasks().count(), sheet.places().count()), (0, 0, 0));
+    for number in [0, 1, 12, usize::MAX] {
+        assert_eq!((sheet.start(Carrier(number)), sheet.goal_bytes(Task(number))), (None, None));
+        assert!(sheet.goals(Task(number)).is_empty() && sheet.place(number, 0).is_none());
+    }
+    for place in [Place(0), Place(u16::MAX)] {
+        assert_eq!((sheet.is_free(place), sheet.lane(place)), (false, None));
+        assert_eq!(sheet.column_and_row(place), (0, usize::from(place.0)));
+    }
+    for limit in [0, 1, 4096, u16::MAX] {
+        assert_eq!(sheet.with_node_limit(limit).as_ref(), Ok(&sheet));
+    }
+    assert!(!change(2, 3, 18).build().expect("accepted").is_dark());
+    // A builder makes no dark house: without carriers it has cause 2.
+    for builder in [Sheet::builder(0, 0), Sheet::builder(2, 2)] {
+        assert_eq!(builder.build().map_err(|refusal| refusal.cause), Err(Cause::Header));
+    }
 }
