@@ -3,6 +3,7 @@
 use carrier_planner::{Place, Plan, Sheet, Task};
 
 use crate::json::{self, Json};
+use crate::report::count;
 use crate::text::{TextError, WHOLE};
 
 /// What a file says is a plan.
@@ -78,8 +79,9 @@ fn of_listing(text: &str) -> Result<Claim, TextError> {
             }
         }
     }
-    if given.is_empty() {
-        return wrong(1, "there is no carrier's line");
+    // The first line alone is the plan of a dark house.
+    if given.is_empty() && flowtime.is_none() {
+        return wrong(1, "there is no line `plan F nodes N` and no carrier's line");
     }
     in_order(flowtime, given)
 }
@@ -134,7 +136,11 @@ impl Claim {
     pub fn check(&self, sheet: &Sheet) -> Result<Plan, String> {
         let (steps, m) = (sheet.horizon() + 1, sheet.m());
         if self.rounds.len() != m {
-            return Err(format!("it has {} carriers, the sheet has {m}", self.rounds.len()));
+            let carriers = count(self.rounds.len(), "carrier");
+            return Err(match m {
+                0 => format!("it has {carriers}, the sheet is a dark house and has none"),
+                _ => format!("it has {carriers}, the sheet has {m}"),
+            });
         }
         if let Some(carrier) = self.rounds.iter().position(|round| round.path.len() != steps) {
             let count = self.rounds[carrier].path.len();

@@ -91,7 +91,7 @@ fn named(path: &str) -> &str {
     }
 }
 
-/// A text has no control characters but tabs and line ends; every accepted sheet has zero bytes.
+/// A text is not empty, and has no control characters but tabs and line ends; an accepted sheet is empty, or has zero bytes.
 fn is_text(bytes: &[u8]) -> bool {
     let plain = |c: char| !c.is_control() || matches!(c, '\n' | '\r' | '\t');
     !bytes.is_empty() && std::str::from_utf8(bytes).is_ok_and(|text| text.chars().all(plain))
@@ -106,6 +106,11 @@ fn sheet(options: &Options) -> Result<Result<Sheet, (Refusal, Vec<u8>)>, Stop> {
         Form::Text => true,
         Form::Sheet => false,
     };
+    if bytes.is_empty() && !as_text && !options.quiet {
+        // It may be empty by mistake.
+        let said = "it has no bytes and is taken as a dark house, a round without carriers";
+        let _ = writeln!(io::stderr(), "deckplan: {}: {said}", named(path));
+    }
     let sheet = if as_text {
         let text = String::from_utf8_lossy(&bytes);
         let text = text.strip_prefix('\u{feff}').unwrap_or(&text);

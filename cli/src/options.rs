@@ -12,7 +12,8 @@ deckplan writes, plans, checks and shows carrier rounds.
   deckplan text FILE            write a job sheet as text
   deckplan explain FILE         say what is in a sheet, or why it is refused, and where
 
-FILE is a job sheet or a text, whichever it looks like; `-`, or none, is standard input.
+FILE is a job sheet or a text, whichever it looks like; `-`, or none, is standard input. A FILE of no
+bytes is the sheet of a dark house, a round without carriers; deckplan says so, but not with -q.
 
   -o, --output FILE   write there instead of to standard output
   --nodes N           search with this node limit, 1 to 4096, instead of the sheet's
@@ -36,6 +37,7 @@ A text is typed like this (docs/TEXT.md has all of it):
 Capital letters A to L are carriers, `#` is blocked, other letters are places by name. Task a goes by
 way of p to its gate a; task b has no line, so the letter b on the floor is its only goal. The signs
 ↑ → ↓ ← are lanes, which a carrier leaves only that way; a line `lane east: A 3,1` makes lanes too.
+The text of a dark house is the one line `dark`.
 
 Exit status: 0 a plan, a yes, done; 1 no plan, or a no; 2 the node limit is spent; 3 a sheet, text or
 plan file is refused; 4 trouble with the command line or a file.

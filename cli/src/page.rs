@@ -30,6 +30,7 @@ pub fn page(name: &str, shown: &Shown) -> String {
         ),
     };
     let kind = match shown {
+        Shown::Answered(sheet, _) if sheet.is_dark() => "dark",
         Shown::Answered(_, board) => match board.answer() {
             Answer::Plan { .. } => "plan",
             Answer::NoPlan { .. } => "none",
@@ -58,6 +59,10 @@ pub fn refusal_words(refusal: &Refusal) -> String {
 
 fn answered(sheet: &Sheet, board: &GateBoard, sentence: &str) -> String {
     let sentence = format!("<p class=\"words\">{}</p>\n", escaped(sentence));
+    // No floor, no carriers, no times: the words are all there is to show.
+    if sheet.is_dark() {
+        return format!("<main>\n{sentence}</main>\n");
+    }
     let floor = floor_svg(sheet, board.plan());
     match board.plan() {
         // Beside the floor, so that a large floor has the window's height.

@@ -40,14 +40,12 @@ pub fn picture(name: &str, shown: &Shown) -> String {
             (format!("Refused: cause {}", refusal.cause.number()), refusal_words(refusal))
         }
     };
-    let (floor_width, floor_height) = match shown {
-        Shown::Answered(sheet, _) => {
-            let (across, down) = (sheet.width() as f64 * CELL + RULER, sheet.height() as f64 * CELL + RULER);
-            (across * scale(across) + 8.0, down * scale(across) + 10.0)
-        }
-        Shown::Refused(..) => (0.0, 0.0),
+    // A refused sheet and a dark house have no floor.
+    let drawn = match shown {
+        Shown::Answered(sheet, board) if !sheet.is_dark() => Some((sheet, board.answer())),
+        _ => None,
     };
-    let width = floor_width.max(NARROW);
+    let width = drawn.map_or(NARROW, |(sheet, _)| floor_size(sheet).0.max(NARROW));
     let mut body = String::new();
     let mut y = 20.0;
     let title = format!("{heading} - {name}");
@@ -59,22 +57,8 @@ pub fn picture(name: &str, shown: &Shown) -> String {
         let _ = writeln!(body, "<text class=\"words\" x=\"0\" y=\"{y}\">{}</text>", escaped(&line));
         y += 16.0;
     }
-    if let Shown::Answered(sheet, board) = shown {
-        let answer = board.answer();
-        let larger = scale(sheet.width() as f64 * CELL + RULER);
-        let (right, down) = (short(RULER * larger), short(y + 14.0 * larger));
-        let _ = writeln!(body, "<g transform=\"translate({right} {down}) scale({})\">", short(larger));
-        body.push_str(&floor_part(sheet, answer));
-        body.push_str("</g>\n");
-        y += floor_height + 10.0;
-        for (mark, line) in entries(sheet, answer, letters(width - 34.0)) {
-            if let Some(carrier) = mark {
-                let _ = writeln!(body, "{}", sample(carrier, y - 4.0));
-            }
-            let _ =
-                writeln!(body, "<text class=\"entry\" x=\"34\" y=\"{}\">{}</text>", short(y), escaped(&line));
-            y += 16.0;
-        }
+    if let Some((sheet, answer)) = drawn {
+        y = floor_and_entries(&mut body, sheet, answer, width, y);
     }
     format!(
         "<svg xmlns=\"http://www.w3.org/2000/svg\" viewBox=\"-10 -4 {w} {h}\" width=\"{w}\" height=\"{h}\">\n\
@@ -84,6 +68,30 @@ pub fn picture(name: &str, shown: &Shown) -> String {
         w = short(width + 20.0),
         h = short(y + 4.0)
     )
+}
+
+/// Width and height of the floor as it is drawn.
+fn floor_size(sheet: &Sheet) -> (f64, f64) {
+    let (across, down) = (sheet.width() as f64 * CELL + RULER, sheet.height() as f64 * CELL + RULER);
+    (across * scale(across) + 8.0, down * scale(across) + 10.0)
+}
+
+/// Adds the floor from y on and the lines below it, and gives where they end.
+fn floor_and_entries(body: &mut String, sheet: &Sheet, answer: &Answer, width: f64, mut y: f64) -> f64 {
+    let larger = scale(sheet.width() as f64 * CELL + RULER);
+    let (right, down) = (short(RULER * larger), short(y + 14.0 * larger));
+    let _ = writeln!(body, "<g transform=\"translate({right} {down}) scale({})\">", short(larger));
+    body.push_str(&floor_part(sheet, answer));
+    body.push_str("</g>\n");
+    y += floor_size(sheet).1 + 10.0;
+    for (mark, line) in entries(sheet, answer, letters(width - 34.0)) {
+        if let Some(carrier) = mark {
+            let _ = writeln!(body, "{}", sample(carrier, y - 4.0));
+        }
+        let _ = writeln!(body, "<text class=\"entry\" x=\"34\" y=\"{}\">{}</text>", short(y), escaped(&line));
+        y += 16.0;
+    }
+    y
 }
 
 /// Words in lines of at most so many letters.

@@ -80,6 +80,11 @@ pub fn count(number: usize, one: &str) -> String {
 
 /// What an accepted sheet holds.
 pub fn summary(sheet: &Sheet) -> String {
+    if sheet.is_dark() {
+        return "accepted: a dark house, a round without carriers; the sheet has no bytes; the empty plan is its only \
+                plan; a search asks for no workspace\n"
+            .to_string();
+    }
     let blocked = sheet.places().filter(|place| !sheet.is_free(*place)).count();
     let lanes = match sheet.places().filter(|place| sheet.lane(*place).is_some()).count() {
         0 => String::new(),
@@ -122,22 +127,34 @@ pub fn summary_json(sheet: &Sheet) -> String {
     )
 }
 
+fn dark_words() -> (String, String) {
+    (
+        "Dark house: no carriers, nothing to drive".to_string(),
+        "The sheet has no bytes: a day without a performance. The empty plan, of flowtime 0, is its only plan, and the \
+         search made no node."
+            .to_string(),
+    )
+}
+
+fn plan_words(sheet: &Sheet, plan: &Plan, nodes: &str) -> (String, String) {
+    let last = plan.carriers().filter_map(|carrier| plan.finish(carrier)).max().unwrap_or(0);
+    (
+        format!("Plan of flowtime {}", plan.flowtime()),
+        format!(
+            "The finishes add up to {}, and no plan for this sheet has less. The last carrier finishes at time {last}; \
+             the horizon is {}. The search made {nodes}.",
+            plan.flowtime(),
+            sheet.horizon()
+        ),
+    )
+}
+
 /// A heading and a sentence on what the search said.
 pub fn answer_words(sheet: &Sheet, answer: &Answer) -> (String, String) {
     let nodes = count(answer.nodes() as usize, "node");
     match answer {
-        Answer::Plan { plan, .. } => {
-            let last = plan.carriers().filter_map(|carrier| plan.finish(carrier)).max().unwrap_or(0);
-            (
-                format!("Plan of flowtime {}", plan.flowtime()),
-                format!(
-                    "The finishes add up to {}, and no plan for this sheet has less. The last carrier finishes at \
-                     time {last}; the horizon is {}. The search made {nodes}.",
-                    plan.flowtime(),
-                    sheet.horizon()
-                ),
-            )
-        }
+        Answer::Plan { .. } if sheet.is_dark() => dark_words(),
+        Answer::Plan { plan, .. } => plan_words(sheet, plan, &nodes),
         Answer::NoPlan { nodes: 0 } => (
             "No plan".to_string(),
             format!(

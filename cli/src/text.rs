@@ -71,6 +71,9 @@ struct Lines {
     tasks: BTreeMap<usize, At<Vec<String>>>,
     /// A direction may have several lines.
     lanes: Vec<At<(Direction, Vec<String>)>>,
+    dark: Option<At<()>>,
+    /// The first line that is not `dark`.
+    other: Option<usize>,
     last: usize,
 }
 
@@ -82,8 +85,18 @@ const NODES: u16 = 4096;
 /// Makes a sheet of a text.
 pub fn sheet_of_text(text: &str) -> Result<Sheet, TextError> {
     let lines = read_lines(text)?;
+    match (lines.dark, lines.other) {
+        (Some(_), None) => return Ok(Sheet::dark()),
+        (Some((line, ())), Some(other)) => {
+            return wrong(line, format!("`dark` must be the only line of its text; line {other} is another"));
+        }
+        (None, _) => {}
+    }
     let Some(floor) = lines.floor else {
-        return wrong(lines.last, "there is no floor: a line `floor`, then the rows, one line each");
+        return wrong(
+            lines.last,
+            "there is no floor: a line `floor`, then the rows, one line each; or `dark` alone, a round without carriers",
+        );
     };
     // Before the horizon: a line that follows the floor without an empty line before it is taken as a row.
     let width = check_rows(floor, &lines.rows)?;
@@ -127,26 +140,41 @@ fn read_lines(text: &str) -> Result<Lines, TextError> {
             continue;
         }
         let (word, rest) = line.split_once(char::is_whitespace).unwrap_or((line, ""));
+        let rest = rest.trim();
+        if word.eq_ignore_ascii_case("dark") {
+            lines.take_dark(number, word, rest)?;
+            continue;
+        }
+        lines.other.get_or_insert(number);
         if word.eq_ignore_ascii_case("floor") {
-            if lines.floor.is_some() {
-                return wrong(number, "a second floor; a text has one");
-            }
-            if !rest.is_empty() {
-                return wrong(
-                    number,
-                    format!("`{rest}` after `floor`: the rows follow in lines of their own"),
-                );
-            }
-            lines.floor = Some(number);
+            lines.take_floor(number, rest)?;
             in_floor = true;
         } else {
-            lines.take(number, word, rest.trim())?;
+            lines.take(number, word, rest)?;
         }
     }
     Ok(lines)
 }
 
 impl Lines {
+    fn take_dark(&mut self, line: usize, word: &str, rest: &str) -> Result<(), TextError> {
+        if !rest.is_empty() {
+            return wrong(line, format!("`{rest}` after `{word}`, which is a line by itself"));
+        }
+        once(&mut self.dark, line, word, ())
+    }
+
+    fn take_floor(&mut self, line: usize, rest: &str) -> Result<(), TextError> {
+        if self.floor.is_some() {
+            return wrong(line, "a second floor; a text has one");
+        }
+        if !rest.is_empty() {
+            return wrong(line, format!("`{rest}` after `floor`: the rows follow in lines of their own"));
+        }
+        self.floor = Some(line);
+        Ok(())
+    }
+
     fn take(&mut self, line: usize, word: &str, rest: &str) -> Result<(), TextError> {
         match word.to_ascii_lowercase().as_str() {
             "horizon" => once(&mut self.horizon, line, word, number(line, word, rest, 0, 255)? as u8),
@@ -180,7 +208,7 @@ impl Lines {
             _ => wrong(
                 line,
                 format!(
-                    "`{word}` is not known here; a line begins with floor, horizon, nodes, carrier, task or lane"
+                    "`{word}` is not known here; a line begins with floor, horizon, nodes, carrier, task, lane or dark"
                 ),
             ),
         }
@@ -414,7 +442,10 @@ fn find_starts(lines: &Lines, floor: &Floor) -> Result<Vec<At<Point>>, TextError
         }
     }
     if starts.is_empty() {
-        return wrong(lines.floor.unwrap_or(1), "there is no carrier: a letter A to L on the floor for each");
+        return wrong(
+            lines.floor.unwrap_or(1),
+            "there is no carrier: a letter A to L on the floor for each; without carriers a text is `dark` alone",
+        );
     }
     Ok(starts.into_values().collect())
 }
@@ -492,8 +523,11 @@ fn refused(refusal: &Refusal, starts: &[At<Point>], tasks: &[At<Vec<Point>>]) ->
 }
 
 /// The text of a sheet: carriers and gates as letters on the floor, further stops too as long as there are letters; lanes as signs on
-/// the floor, and where a letter stands by a line.
+/// the floor, and where a letter stands by a line. Of the dark house it is one word.
 pub fn text_of_sheet(sheet: &Sheet) -> String {
+    if sheet.is_dark() {
+        return "dark\n".to_string();
+    }
     let marks = Marks::of(sheet);
     let mut text = format!("horizon {}\nnodes {}\n\nfloor\n", sheet.horizon(), sheet.node_limit());
     for place in sheet.places() {

@@ -92,6 +92,7 @@ fn pages_and_pictures_of_all_kinds() {
             let listing = deckround(RULES, &bytes, PLENTY);
             let words: Vec<&str> = listing.split_whitespace().collect();
             let (heading, status) = match words[0] {
+                _ if bytes.is_empty() => ("Dark house: no carriers, nothing to drive".to_string(), 0),
                 "plan" => (format!("Plan of flowtime {}", words[1]), 0),
                 "none" => ("No plan".to_string(), 1),
                 "spent" => ("Not decided: the node limit is spent".to_string(), 2),
@@ -104,9 +105,9 @@ fn pages_and_pictures_of_all_kinds() {
                 assert!(text.contains(&heading), "{name}: no {heading}");
                 well_formed(&name, &text);
                 complete(&name, &text);
-                let carriers = if status == 3 { 0 } else { usize::from(bytes[2]) };
+                let carriers = bytes.get(2).filter(|_| status != 3).map_or(0, |&m| usize::from(m));
                 assert_eq!(text.matches("class=\"token\"").count(), carriers, "{name}");
-                let boards = usize::from(command == "view" && status == 0);
+                let boards = usize::from(command == "view" && heading.starts_with("Plan"));
                 assert_eq!(text.matches("id=\"board\"").count(), boards, "{name}");
                 if boards == 0 {
                     continue;
@@ -152,6 +153,34 @@ fn lanes_are_drawn_and_said() {
         let plain = deckplan(&[command, "--as-text"], b"horizon 3\nfloor\nA.a\n").printed();
         assert!(!plain.contains(said) && !plain.contains("class=\"lane\""), "{command}");
     }
+}
+
+/// Words alone: no floor of no places, no table without rows, nothing to press, and no script that would look for them.
+#[test]
+fn a_dark_house_is_said_in_words() {
+    let said = [
+        "Dark house: no carriers, nothing to drive",
+        "The sheet has no bytes: a day without a performance.",
+        "The empty plan, of flowtime 0, is its only plan",
+    ];
+    for (command, input) in ["view", "picture"].into_iter().flat_map(|name| [(name, ""), (name, "Dark\n")]) {
+        let ran = deckplan(&[command, "-q"], input.as_bytes());
+        let text = ran.printed();
+        assert_eq!((ran.status, ran.error.as_str()), (0, ""), "{command} {input:?}");
+        well_formed(command, &text);
+        complete(command, &text);
+        let shown = words(&text);
+        assert!(said.iter().all(|words| shown.contains(words)), "{command} {input:?}: {shown}");
+        for part in
+            ["<table", "<script", "<input", "<select", "id=\"floor\"", "class=\"ground\"", "NaN", "inf"]
+        {
+            assert!(!text.contains(part), "{command} {input:?}: {part}");
+        }
+    }
+    let page = deckplan(&["view", "-q"], b"").printed();
+    assert!(page.contains("<body class=\"dark\">") && !page.contains("<svg"));
+    // The button for the colours is hidden without a script; there is no other.
+    assert_eq!((page.matches("<button").count(), page.matches(" hidden>").count()), (1, 1));
 }
 
 #[test]

@@ -30,7 +30,8 @@ fn listings_json_and_checks_of_all_kinds() {
                 assert!(explained.printed().starts_with("refused: cause "), "{name}");
                 continue;
             }
-            assert!(explained.printed().starts_with("accepted: a floor of "), "{name}");
+            let what = if bytes.is_empty() { "accepted: a dark house, " } else { "accepted: a floor of " };
+            assert!(explained.printed().starts_with(what), "{name}");
             if status == 0 {
                 let sheet = file(&format!("{kind}-{seed}.sheet"), &bytes);
                 let flowtime = expected.split_whitespace().nth(1).expect("a flowtime");
@@ -101,7 +102,7 @@ fn boards() {
     assert_eq!((none.status, none.printed().as_str()), (1, "none nodes 0\n"));
     let refused = deckplan(&["board"], &[0; 7]);
     assert_eq!((refused.status, refused.printed().as_str()), (3, "refused 1\n"));
-    assert!(refused.error.contains("standard input: cause 1: under 8 bytes"), "{}", refused.error);
+    assert!(refused.error.contains("standard input: cause 1: one to seven bytes"), "{}", refused.error);
     let path = file("board.txt", b"");
     assert_eq!(deckplan(&["board", "-o", &path], text).out, b"");
     assert_eq!(std::fs::read_to_string(&path).expect("written"), printed);
@@ -147,14 +148,15 @@ fn checks_say_why() {
     no("2 3 1", "2 3 3", "carrier 0 does not reach goal 1 of task 1 (place 1) in its turn");
     no("2 3 1", "1 3 1", "carrier 0 and carrier 1 change places 0 and 1 between times 0 and 1");
     no("2 3 1", "2 3 1 1", "the path of carrier 0 has 5 places; with this horizon it has 4");
-    no("carrier 1 task 0 finish 1: 1 0 0 0\n", "", "it has 1 carriers, the sheet has 2");
+    no("carrier 1 task 0 finish 1: 1 0 0 0\n", "", "it has 1 carrier, the sheet has 2");
+    no(&PLAN["plan 4 nodes 18\n".len()..], "", "it has 0 carriers, the sheet has 2");
 }
 
 #[test]
 fn faulty_plan_files() {
     let sheet = file("round6b.txt", SHEET.as_bytes());
     let cases = [
-        ("", "line 1: there is no carrier's line"),
+        ("", "line 1: there is no line `plan F nodes N` and no carrier's line"),
         ("none nodes 6\n", "line 1: `none nodes 6`: this is no plan"),
         ("plan 4 nodes 18\ncarrier 0\n", "line 2: a line is `plan F nodes N` or"),
         ("carrier 0 task 1 finish x: 0\n", "line 1: `x` is no number"),

@@ -20,7 +20,7 @@ fn sheets_of_all_kinds_there_and_back() {
         let seeds = if matches!(kind, "max" | "full" | "medium") { 10 } else { 40 };
         for seed in 0..seeds {
             let sheet = generated(kind, seed);
-            let text = deckplan(&["text", "--as-sheet"], &sheet);
+            let text = deckplan(&["text", "--as-sheet", "-q"], &sheet);
             if let Err(cause) = read_sheet(RULES, &sheet) {
                 assert_eq!((text.status, text.out.as_slice()), (3, &b""[..]), "{kind} {seed}");
                 let said = format!("refused, cause {}:", cause.number());
@@ -31,7 +31,7 @@ fn sheets_of_all_kinds_there_and_back() {
             let back = deckplan(&["sheet"], &text.out);
             assert_eq!(back.error, "", "{kind} {seed}:\n{}", text.printed());
             assert_eq!(back.out, sheet, "{kind} {seed}:\n{}", text.printed());
-            assert_eq!(deckplan(&["text"], &back.out).out, text.out, "{kind} {seed}");
+            assert_eq!(deckplan(&["text", "-q"], &back.out).out, text.out, "{kind} {seed}");
         }
     }
 }
@@ -83,7 +83,9 @@ fn lanes_by_signs_and_by_lines() {
 fn errors_name_the_line() {
     let floor = "horizon 3\nfloor\nA.b\n.#B\n\n";
     let heads = [
-        ("", "line 1: there is no floor"),
+        ("", "line 1: there is no floor: a line `floor`, then the rows, one line each; or `dark` alone"),
+        ("\n// dark\n\n", "line 3: there is no floor"),
+        ("horizon 3\nnodes 4\n", "line 2: there is no floor"),
         ("floor\nA\n\ntask a: A", "line 4: there is no horizon"),
         ("horizon 3\nfloor\n", "line 2: the floor has no rows"),
         ("floor\nA.a\nhorizon 5\n", "line 3: `5` in column 7 of the floor"),
@@ -91,11 +93,19 @@ fn errors_name_the_line() {
         ("horizon 256\n", "line 1: `horizon` wants a number from 0 to 255, and has `256`"),
         ("nodes 0\n", "line 1: `nodes` wants a number from 1 to 4096, and has `0`"),
         ("horizon 1\nhorizon 2\n", "line 2: a second `horizon`; the first is in line 1"),
-        ("horizon 3\nflor\n", "line 2: `flor` is not known here"),
+        (
+            "horizon 3\nflor\n",
+            "line 2: `flor` is not known here; a line begins with floor, horizon, nodes, carrier, task, lane or dark",
+        ),
+        ("horizon 3\nfloor 4\n", "line 2: `4` after `floor`"),
+        ("floor\nA\n\nfloor\n", "line 4: a second floor"),
         ("horizon 3\nfloor\nA.\n.\n", "line 4: this row has 1 places, the first has 2"),
         ("horizon 3\nfloor\nA.\n.?\n", "line 4: `?` in column 1 of the floor"),
         ("horizon 3\nfloor\nA.\nA.\n", "line 4: a second A on the floor; the first is in line 3"),
-        ("horizon 1\nfloor\n..\n", "line 2: there is no carrier"),
+        (
+            "horizon 1\nfloor\n..\n",
+            "line 2: there is no carrier: a letter A to L on the floor for each; without carriers a text is `dark` alone",
+        ),
         ("horizon 1\nfloor\nB.\n", "line 3: carrier B without carrier A"),
         (
             "horizon 1\nfloor\nA.\n\ncarrier a: 0,0\n",
@@ -169,6 +179,7 @@ fn examples_are_planned() {
         read("examples/sheets/lanes.txt"),
         read("examples/sheets/evening.txt"),
         read("examples/sheets/matinee.txt"),
+        read("examples/sheets/dark.txt"),
     ];
     for text in texts {
         let ran = deckplan(&["plan"], text.as_bytes());
@@ -179,10 +190,11 @@ fn examples_are_planned() {
 
 #[test]
 fn example_sheets_are_those_of_their_texts() {
-    for name in ["evening", "matinee"] {
+    for name in ["evening", "matinee", "dark"] {
         let path = format!(concat!(env!("CARGO_MANIFEST_DIR"), "/../examples/sheets/{}"), name);
         let sheet = std::fs::read(format!("{path}.sheet")).expect(name);
-        assert_eq!(deckplan(&["sheet", &format!("{path}.txt")], b"").out, sheet, "{name}");
+        let made = deckplan(&["sheet", &format!("{path}.txt")], b"");
+        assert_eq!((made.status, made.out), (0, sheet), "{name}");
     }
 }
 
@@ -220,6 +232,8 @@ fn no_text_panics() {
         "north: ",
         "→",
         "↓↑\n",
+        "dark",
+        "DARK\n",
     ];
     for case in 0..1500 {
         let text: String = (0..rng.range(0, 25)).map(|_| rng.pick(&pieces)).collect();

@@ -15,9 +15,19 @@
     else {
       want(document.querySelector(".words").textContent.length > 30, "no words");
       want(!get("board"), "a gate board without a plan");
+      if (document.body.classList.contains("dark")) dark();
     }
   } catch (error) { wrong.push(String(error)); }
   end();
+
+  // A dark house is said in words, and that is all: no floor, no table, and nothing to press.
+  function dark() {
+    want(document.querySelector("h1").textContent.includes("Dark house"), "the heading does not say that it is a dark house");
+    want(document.querySelector(".words").offsetHeight > 0, "the words are not in sight");
+    for (const part of ["svg", "table", "input", "select", "output"]) want(!document.querySelector(part), `a dark house with ${part}`);
+    const inSight = [...document.querySelectorAll("button")].filter((button) => button.offsetParent);
+    want(inSight.length === 0, "a button that does nothing");
+  }
 
   // The gate board's lines, from the top.
   function lines() { return [...document.querySelectorAll("#board tbody tr")]; }
