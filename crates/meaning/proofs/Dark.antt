@@ -14,7 +14,7 @@ use Rattle.deck.specs.Calls.{workspaceFor, workspaceOf}
 use Rattle.meaning.specs.Meaning.{Plan, Right}
 use Rattle.meaning.proofs.Accepted.{accepted-count, accepted-horizon}
 
--- THE SHEET
+-- THE SHEET, without bytes and with
 pub sheet-cases : (s : List ℕ) → sheetCause s ≡ 0 → (s ≡ []) ⊎ (cause s ≡ 0)
 unfolding sheetCause
 sheet-cases [] e = inl refl
@@ -30,6 +30,7 @@ unfolding sheetCause
 cause-with [] n = absurd (n refl)
 cause-with (b ∷ s) n = refl
 
+-- what holds of an accepted sheet either way
 module _ (s : List ℕ) (ok : sheetCause s ≡ 0) where
   pub most-carriers : countOf s ≤ 12
   most-carriers = go (sheet-cases s ok)
@@ -45,6 +46,7 @@ module _ (s : List ℕ) (ok : sheetCause s ≡ 0) where
       go (inl e) = rw e (omega arith)
       go (inr e) = accepted-horizon s e
 
+  -- with a carrier it has bytes
   pub with-carriers : 0 < countOf s → cause s ≡ 0
   with-carriers h = go (sheet-cases s ok)
     where

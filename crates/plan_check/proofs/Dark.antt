@@ -13,16 +13,17 @@ use Rattle.meaning.proofs.Dark.{nil-of, only-plan}
 use Rattle.plan_check.specs.Meant.{PlanFor}
 use Rattle.plan_check.proofs.Calls.{meant}
 
-module _ (tasks ws : List ℕ) (f : ℕ) where
-  abbrev Yes-of-none : Type 0
-  Yes-of-none = (ws ≡ []) × ((k : ℕ) → k < length tasks → tasks at k ≡ 255) × (f ≡ 0)
+-- the empty plan as the call is given it: no words, 255s, and flowtime 0
+abbrev pub EmptyPlan : (tasks ws : List ℕ) (f : ℕ) → Type 0
+EmptyPlan tasks ws f = (ws ≡ []) × ((k : ℕ) → k < length tasks → tasks at k ≡ 255) × (f ≡ 0)
 
-  plan-none : PlanFor [] tasks ws f → Yes-of-none
+module _ (tasks ws : List ℕ) (f : ℕ) where
+  plan-none : PlanFor [] tasks ws f → EmptyPlan tasks ws f
   plan-none p =
       let none = only-plan (read []) refl _ _ _ .0 (p .plan) in
       (nil-of ws (p .exact), λ k h. p .rest k (omega arith) h, sym (p .flowtime) ∙ ap sum (none .2))
 
-  none-plan : Yes-of-none → PlanFor [] tasks ws f
+  none-plan : EmptyPlan tasks ws f → PlanFor [] tasks ws f
   unfolding sheetCause
   none-plan h =
       record {
@@ -34,5 +35,5 @@ module _ (tasks ws : List ℕ) (f : ℕ) where
         flowtime = sym (h .2);
       }
 
-  pub dark-yes : (checkCall [] tasks ws ≡ Yes f) ↔ Yes-of-none
+  pub dark-yes : (checkCall [] tasks ws ≡ Yes f) ↔ EmptyPlan tasks ws f
   dark-yes = (λ e. plan-none (meant [] tasks ws f .0 e), λ h. meant [] tasks ws f .1 (none-plan h))
