@@ -1,4 +1,6 @@
 // The least assignment of tasks to carriers, with dual prices that prove it least.
+#![tactic(auto)]
+
 mod price;
 
 ghost use Rattle.std.specs.Prelude.{◌≡◌};

@@ -1,43 +1,46 @@
 // Writes, for each table of standard input, the least assignment and the next ones in order. A record of the input: the count m, the
 // number of entries (two bytes, low first), how many assignments to write at most, and the entries, two bytes each.
+#![tactic(auto)]
+
 mod slots;
 
 ghost use Rattle.std.specs.Prelude.{◌≡◌, ◌<◌, length};
 
 use deck::AssignmentKind;
-use libc::{STDIN_FILENO, STDOUT_FILENO};
+use std::io;
 
-fn main() {
+fn main(rt: HostRuntime) -> io::Result<()> {
     let mut going = true;
     let mut turns: u32 = 0;
     while going {
         if turns == 1000 {
-            return;
+            return Ok(());
         }
         turns = turns + 1;
-        going = one_record();
+        going = one_record(&rt)?;
     }
+    Ok(())
 }
 
 // Reads a record and writes what it gives; false where the input ends.
-fn one_record() -> bool {
+fn one_record(rt: &(impl Print + Input)) -> io::Result<bool> {
     let mut head = [0u8; 4];
-    if io::read_full(STDIN_FILENO, &mut head) != 4 {
-        return false;
+    if testing::read_full(rt, &mut head)? != 4 {
+        return Ok(false);
     }
     let m = head[0];
     let n = wide(head[1]) + 256 * wide(head[2]);
     if 169 < n {
-        return false;
+        return Ok(false);
     }
     let mut bytes = zeros();
     let size = 2 * n;
-    if io::read_full(STDIN_FILENO, &mut bytes[..size]) != size {
-        return false;
+    if testing::read_full(rt, &mut bytes[..size])? != size {
+        return Ok(false);
     }
     let t = words(&bytes);
-    answer(m, &t[..n], wide(head[3]));
-    true
+    answer(rt, m, &t[..n], wide(head[3]))?;
+    Ok(true)
 }
 
 fn wide(x: u8) -> usize
@@ -67,41 +70,38 @@ fn words(bytes: &[u8; 338]) -> [u16; 169]
     t
 }
 
-fn answer(m: u8, table: &[u16], most: usize) {
+fn answer(rt: &impl Print, m: u8, table: &[u16], most: usize) -> io::Result<()> {
     let a = assignment::least_assignment(m, table);
     let kind = a.kind;
     match kind {
         AssignmentKind::Refused(c) => {
-            io::write_all(STDOUT_FILENO, b"refused ");
-            io::print_decimal(STDOUT_FILENO, c as u64);
-            io::write_all(STDOUT_FILENO, b"\n");
+            print!(rt; "refused {c}\n")?;
         }
         AssignmentKind::NoAssignment => {
-            io::write_all(STDOUT_FILENO, b"none\n");
+            print!(rt; "none\n")?;
         }
         AssignmentKind::Least(s) => {
-            io::write_all(STDOUT_FILENO, b"least ");
+            print!(rt; "least ")?;
             let tasks = a.tasks;
-            list(s as u64, &tasks);
-            slots::in_order(m, table, most);
+            list(rt, s as u64, &tasks)?;
+            slots::in_order(rt, m, table, most)?;
         }
     }
+    Ok(())
 }
 
 // The sum and the tasks, up to the first 255.
-pub fn list(sum: u64, tasks: &[u8; 12]) {
-    io::print_decimal(STDOUT_FILENO, sum);
-    io::write_all(STDOUT_FILENO, b":");
+pub fn list(rt: &impl Print, sum: u64, tasks: &[u8; 12]) -> io::Result<()> {
+    print!(rt; "{sum}:")?;
     for i in 0..12usize {
-        item(tasks[i]);
+        item(rt, tasks[i])?;
     }
-    io::write_all(STDOUT_FILENO, b"\n");
+    print!(rt; "\n")
 }
 
-fn item(j: u8) {
+fn item(rt: &impl Print, j: u8) -> io::Result<()> {
     if j == 255 {
-        return;
+        return Ok(());
     }
-    io::write_all(STDOUT_FILENO, b" ");
-    io::print_decimal(STDOUT_FILENO, j as u64);
+    print!(rt; " {j}")
 }

@@ -4,10 +4,10 @@ ghost use Rattle.std.specs.Prelude.{◌≤◌, ◌<◌};
 use crate::list;
 use candidates::Candidate;
 use deck::Carrier;
-use libc::STDOUT_FILENO;
+use std::io;
 
 // A root: its tasks, and its part's row and closed tasks.
-#[derive(Drop)]
+#[derive(Clone, Copy)]
 struct Root {
     tasks: [u8; 12],
     row: usize,
@@ -92,22 +92,22 @@ fn best(slots: [Candidate; 96]) -> usize
 }
 
 // Writes the assignments after the first, up to 8 and up to `most` in all.
-pub fn in_order(m: u8, table: &[u16], most: usize) {
+pub fn in_order(rt: &impl Print, m: u8, table: &[u16], most: usize) -> io::Result<()> {
     let n = tables::wide(m);
     if n < 1 {
-        return;
+        return Ok(());
     }
     if 12 < n {
-        return;
+        return Ok(());
     }
     if table.len() != n * n {
-        return;
+        return Ok(());
     }
     let t = tables::filled(n, table);
-    run(n, &t, most);
+    run(rt, n, &t, most)
 }
 
-fn run(m: usize, t: &[u16; 144], most: usize)
+fn run(rt: &impl Print, m: usize, t: &[u16; 144], most: usize) -> io::Result<()>
     requires { m ≤ 12 }
 {
     let first = candidates::first(m, t);
@@ -122,23 +122,24 @@ fn run(m: usize, t: &[u16; 144], most: usize)
     for k in 1..8usize {
         let b = best(slots);
         if b == 96 {
-            return;
+            return Ok(());
         }
         if most <= k {
-            return;
+            return Ok(());
         }
         let c = slots[b];
-        write(c);
+        write(rt, c)?;
         let next = next_root(roots[b / 12], c, b % 12);
         roots[k] = next;
         slots[b] = nothing();
         let more = opened(m, t, next, k, slots);
         slots = more;
     }
+    Ok(())
 }
 
-fn write(c: Candidate) {
-    io::write_all(STDOUT_FILENO, b"next ");
+fn write(rt: &impl Print, c: Candidate) -> io::Result<()> {
+    print!(rt; "next ")?;
     let tasks = c.tasks;
-    list(c.sum as u64, &tasks);
+    list(rt, c.sum as u64, &tasks)
 }

@@ -7,13 +7,13 @@ abbrev pub count_in : List ℕ → ℕ
 count_in rs = length rs / 5
 
 -- the record k is one of the carrier i, at the time t
-abbrev pub field_own : List ℕ → ℕ → ℕ → ℕ → Bool
-field_own rs i t k = eqb (record_word rs k 1) i && eqb (record_word rs k 4) t
+abbrev pub own_at : List ℕ → ℕ → ℕ → ℕ → Bool
+own_at rs i t k = eqb (record_word rs k 1) i && eqb (record_word rs k 4) t
 
 -- one more than the last record below n that is the carrier's at t, and 0 for none
 abbrev pub chain : List ℕ → ℕ → ℕ → ℕ → ℕ
 chain rs i t zero = 0
-chain rs i t (suc k) = let r = chain rs i t k in cond (field_own rs i t k) (suc k) r
+chain rs i t (suc k) = let r = chain rs i t k in cond (own_at rs i t k) (suc k) r
 
 -- of the first n records: for each time the last, and for each record the one before it at its time
 pub record Linked (rs : List ℕ) (i n : ℕ) (heads links : List ℕ) : Type 0 where
@@ -38,8 +38,8 @@ OnLayer w rs =
 -- the entries at the slots of the carrier's records at t from k on are 0, and the others are as they were
 pub record Cleared (rs : List ℕ) (i t : ℕ) (slot : ℕ → ℕ) (k : ℕ) (before after : List ℕ) : Type 0 where
   pub size : length after ≡ length before
-  pub gone : (r : ℕ) → k ≤ r → r < count_in rs → T (field_own rs i t r) → get_or after (slot r) 0 ≡ 0
-  pub same : (x : ℕ) → ((r : ℕ) → k ≤ r → r < count_in rs → T (field_own rs i t r) → slot r ≢ x) → get_or after x 0 ≡ get_or before x 0
+  pub gone : (r : ℕ) → k ≤ r → r < count_in rs → T (own_at rs i t r) → get_or after (slot r) 0 ≡ 0
+  pub same : (x : ℕ) → ((r : ℕ) → k ≤ r → r < count_in rs → T (own_at rs i t r) → slot r ≢ x) → get_or after x 0 ≡ get_or before x 0
   pub less : (x : ℕ) → get_or after x 0 ≤ get_or before x 0
 
 -- the way by which a step from the padded place a comes to b: from above, left, itself, right, below; 5 for none of these

@@ -1,6 +1,8 @@
 // Places of the padded grid, the ways from one to the next, and the constraints of one carrier in chains by time: for each time
 // the last record, for each record the one before it. So a layer's constraints are found without a look at the others, be there
 // 50 or 4096.
+#![tactic(auto)]
+
 ghost use Rattle.std.specs.Prelude.{◌≡◌, cond, ℕ, suc, ◌+◌, ◌*◌, ◌/◌, ◌<◌, ◌≤◌, length, eqb};
 ghost use Rattle.deck.specs.Calls.{record_word, constraint_at, constraints_of};
 ghost use Rattle.kernel.specs.Parts.{free_move, free_place, stay_after, stay_from};

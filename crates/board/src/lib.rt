@@ -1,5 +1,7 @@
 // The gate board: the search's answer, and for a plan the tasks in the order in which their cars are at the gates. It rests on what the
 // search promises and on nothing else of it.
+#![tactic(auto)]
+
 ghost use Rattle.std.specs.Prelude.{◌≡◌, length};
 ghost use Rattle.deck.specs.Sheet.{read};
 ghost use Rattle.deck.specs.Numbers.{search_numbers};
@@ -10,7 +12,7 @@ use board_lines::Line;
 use deck::{SearchAnswer, SearchKind};
 
 // What the call answers: of a plan one line for each task, the rest zeros.
-#[derive(Drop)]
+#[derive(Clone, Copy)]
 pub struct Board {
     pub answer: SearchAnswer,
     pub lines: [Line; 12],

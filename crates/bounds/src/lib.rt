@@ -1,5 +1,7 @@
 // Lower bounds on the steps that are left from each place with each label of a task: distances by breadth-first search. Nothing
 // is proved of the search. Its distances are tested, and the bounds of a label that failed the test would be 0.
+#![tactic(auto)]
+
 ghost use Rattle.std.specs.Prelude.{◌≡◌, true, cond, suc, ◌+◌, ◌-◌, ◌*◌, ◌/◌, ◌%◌, ◌<◌, ◌≤◌, max, min, length, get_or, eqb};
 ghost use Rattle.deck.specs.Sheet.{read, count_of, goals_of, cause};
 ghost use Rattle.bars.specs.Padded.{pad_of, MaskOf};

@@ -1,4 +1,6 @@
 // One carrier's least path by the two passes: the mask of the sheet and a bound on the finish are handed in.
+#![tactic(auto)]
+
 ghost use Rattle.std.specs.Prelude.{◌≡◌, true, suc, ◌≤◌, length};
 ghost use Rattle.deck.specs.Sheet.{read};
 ghost use Rattle.deck.specs.Paths.{least_path};

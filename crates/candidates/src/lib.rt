@@ -1,4 +1,6 @@
 // The first assignment in order of a table or of a part, and the order of two of these.
+#![tactic(auto)]
+
 ghost use Rattle.std.specs.Prelude.{◌≡◌, cond, ℕ, ◌≤◌, ◌<◌, length, set, take, eqb};
 ghost use Rattle.deck.specs.Assignments.{least_assignment};
 ghost use Rattle.deck.specs.Calls.{task_list};
@@ -14,7 +16,7 @@ use deck::{Carrier, Task};
 use tables::{HEAVY, entry, weigh, weights};
 
 // The first assignment in order with its sum, or none.
-#[derive(Drop)]
+#[derive(Clone, Copy)]
 pub struct Candidate {
     pub found: bool,
     pub sum: u32,
@@ -22,7 +24,7 @@ pub struct Candidate {
 }
 
 // The same with the negated prices of the columns, by merged weights.
-#[derive(Drop)]
+#[derive(Clone, Copy)]
 pub struct PricedCandidate {
     pub candidate: Candidate,
     pub columns: [u64; 12],

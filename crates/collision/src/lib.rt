@@ -1,4 +1,6 @@
 // The first collision of m paths up to time H: least t, place before move, then least pair i < j.
+#![tactic(auto)]
+
 ghost use Rattle.std.specs.Prelude.{◌≡◌};
 ghost use Rattle.deck.specs.Calls.{collision_call};
 ghost use Rattle.deck.specs.Numbers.{collision_numbers};

@@ -1,4 +1,6 @@
 // The first collision of paths that are words of one list: least t, place before move, then least pair i < j.
+#![tactic(auto)]
+
 ghost use Rattle.std.specs.Prelude.{◌≡◌, true, suc, ◌+◌, ◌-◌, ◌*◌, ◌≤◌, ◌<◌, length};
 ghost use Rattle.deck.specs.Lists.{pieces};
 ghost use Rattle.deck.specs.Collisions.{first_collision};

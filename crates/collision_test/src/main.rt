@@ -1,48 +1,52 @@
 // Answers each case of the standard input: m, H, how many words, and the words. A line has document 01's numbers: the cause, 1 for
 // a collision, its kind, t, i, j and its two places.
-use deck::{Collision, CollisionAnswer};
+#![tactic(auto)]
 
-fn main() {
+use deck::{Collision, CollisionAnswer};
+use std::io;
+
+fn main(rt: HostRuntime) -> io::Result<()> {
     let mut buffer = [0u8; 262144];
-    let n = io::read_full(libc::STDIN_FILENO, &mut buffer);
-    cases(&buffer[..n]);
+    let n = testing::read_full(&rt, &mut buffer)?;
+    cases(&rt, &buffer[..n])
 }
 
-fn cases(s: &[u8]) {
+fn cases(rt: &impl Print, s: &[u8]) -> io::Result<()> {
     let mut at = 0;
     while at < s.len() {
         let count = testing::number_at(&s[at..], 2);
         let end = at + 4 + 2 * count;
         if s.len() < end {
-            return;
+            return Ok(());
         }
-        case(&s[at..end], count);
+        case(rt, &s[at..end], count)?;
         at = end;
     }
+    Ok(())
 }
 
-fn case(t: &[u8], count: usize) {
+fn case(rt: &impl Print, t: &[u8], count: usize) -> io::Result<()> {
     if t.len() < 4 {
-        return;
+        return Ok(());
     }
     if 4096 < count {
-        return;
+        return Ok(());
     }
     let ws = testing::words(&t[4..]);
-    report(collision::first_collision(t[0], t[1], &ws[0..count]));
+    report(rt, collision::first_collision(t[0], t[1], &ws[0..count]))
 }
 
-fn report(a: CollisionAnswer) {
+fn report(rt: &impl Print, a: CollisionAnswer) -> io::Result<()> {
     match a {
-        CollisionAnswer::Found(c) => found(c),
-        CollisionAnswer::NoCollision => testing::print_line(&[0; 8]),
-        CollisionAnswer::Refused(n) => testing::print_line(&[n as usize, 0, 0, 0, 0, 0, 0, 0]),
+        CollisionAnswer::Found(c) => found(rt, c),
+        CollisionAnswer::NoCollision => testing::print_line(rt, &[0; 8]),
+        CollisionAnswer::Refused(n) => testing::print_line(rt, &[n as usize, 0, 0, 0, 0, 0, 0, 0]),
     }
 }
 
-fn found(c: Collision) {
+fn found(rt: &impl Print, c: Collision) -> io::Result<()> {
     match c {
-        Collision::Place { t, i, j, u } => testing::print_line(&[0, 1, 0, t, i.0, j.0, u, 0]),
-        Collision::Move { t, i, j, u, v } => testing::print_line(&[0, 1, 1, t, i.0, j.0, u, v]),
+        Collision::Place { t, i, j, u } => testing::print_line(rt, &[0, 1, 0, t, i.0, j.0, u, 0]),
+        Collision::Move { t, i, j, u, v } => testing::print_line(rt, &[0, 1, 1, t, i.0, j.0, u, v]),
     }
 }

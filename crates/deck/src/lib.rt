@@ -1,17 +1,19 @@
 // The planner's terms: the types that every call shares, and the type of each call's answer.
 // The definitions of specs/ speak of these same types, so that code and definitions have one vocabulary.
+#![tactic(auto)]
+
 pub mod causes;
 
 // A carrier's number and a task's number both count from zero and are types of their own, so that neither stands for the
 // other (a and g in the literature).
-#[derive(Drop)]
+#[derive(Clone, Copy)]
 pub struct Carrier(pub usize);
 
-#[derive(Drop)]
+#[derive(Clone, Copy)]
 pub struct Task(pub usize);
 
 // A constraint is one of two kinds.
-#[derive(Drop)]
+#[derive(Clone, Copy)]
 pub enum Constraint {
     // The carrier is not on u at t.
     Place {
@@ -29,7 +31,7 @@ pub enum Constraint {
 }
 
 // A collision of the carriers i and j.
-#[derive(Drop)]
+#[derive(Clone, Copy)]
 pub enum Collision {
     // Both are on u at t.
     Place {
@@ -52,7 +54,7 @@ pub enum Collision {
 pub const MOST_PAIRS: usize = 14;
 
 // What the sheet reader answers: the cause, 0 for an accepted sheet, with the header and the directory's pairs by value.
-#[derive(Drop)]
+#[derive(Clone, Copy)]
 pub struct Reading {
     pub cause: u8,
     pub width: usize,
@@ -65,7 +67,7 @@ pub struct Reading {
 }
 
 // What the single-path call answers: the finish of the path that was written, none, or a cause.
-#[derive(Drop)]
+#[derive(Clone, Copy)]
 pub enum PathAnswer {
     Found(usize),
     NoPath,
@@ -73,7 +75,7 @@ pub enum PathAnswer {
 }
 
 // What the least-assignment call finds: the sum, none, or a cause.
-#[derive(Drop)]
+#[derive(Clone, Copy)]
 pub enum AssignmentKind {
     Least(usize),
     NoAssignment,
@@ -81,7 +83,7 @@ pub enum AssignmentKind {
 }
 
 // The least-assignment call's answer: the task of each carrier, and the dual prices of rows and columns.
-#[derive(Drop)]
+#[derive(Clone, Copy)]
 pub struct AssignmentAnswer {
     pub kind: AssignmentKind,
     pub tasks: [u8; 12],
@@ -90,14 +92,14 @@ pub struct AssignmentAnswer {
 }
 
 // What the first-collision call answers.
-#[derive(Drop)]
+#[derive(Clone, Copy)]
 pub enum CollisionAnswer {
     Found(Collision),
     NoCollision,
     Refused(u8),
 }
 
-#[derive(Drop)]
+#[derive(Clone, Copy)]
 pub enum SearchKind {
     Plan,
     NoPlan,
@@ -106,7 +108,7 @@ pub enum SearchKind {
 }
 
 // What the search answers.
-#[derive(Drop)]
+#[derive(Clone, Copy)]
 pub struct SearchAnswer {
     pub kind: SearchKind,
     pub tasks: [u8; 12],
@@ -116,7 +118,7 @@ pub struct SearchAnswer {
 }
 
 // What the plan check answers: yes with the flowtime, no, or a cause.
-#[derive(Drop)]
+#[derive(Clone, Copy)]
 pub enum CheckAnswer {
     Yes(usize),
     No,

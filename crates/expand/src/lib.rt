@@ -1,4 +1,6 @@
 // Making the nodes of an expansion in the workspace: the root of the next assignment, the children of a node.
+#![tactic(auto)]
+
 ghost use Rattle.std.specs.Prelude.{◌≡◌, List, [], ◌∷◌, ℕ, suc, ◌+◌, ◌*◌, ◌<◌, ◌≤◌, length, take};
 ghost use Rattle.deck.specs.Lists.{each, select};
 ghost use Rattle.deck.specs.Sheet.{read, count_of};
@@ -20,7 +22,7 @@ use nodes::Child;
 use roots::Choice;
 
 // How many nodes are made after a step, and the link to the latest root; or a node was to be made and none is left.
-#[derive(Drop)]
+#[derive(Clone, Copy)]
 pub enum Grown {
     Made { made: usize, latest: usize },
     Spent,

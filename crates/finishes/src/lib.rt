@@ -1,6 +1,8 @@
 // The table of the finishes of the least paths without constraints. Without them the labels of the backward pass rest neither on the
 // time nor on the carrier: one pass for each task serves all carriers, and the entry of a carrier is the first number of steps
 // from the last goal at which its start has every goal. Two layers in turn are enough.
+#![tactic(auto)]
+
 ghost use Rattle.std.specs.Prelude.{◌≡◌, ◌≢◌, true, false, ℕ, suc, ◌+◌, ◌*◌, ◌%◌, ◌<◌, ◌≤◌, length, get_or, set};
 ghost use Rattle.deck.specs.Sheet.{read, count_of, cause, task};
 ghost use Rattle.deck.specs.Assignments.{barred, table_of};
@@ -9,7 +11,7 @@ ghost use Rattle.layers.specs.Fill.{Filled};
 ghost use Rattle.layers.specs.Step.{Doors, Margin};
 ghost use Rattle.passes.specs.Ready.{Turned};
 ghost use Rattle.prices.specs.Square.{cell, copied};
-ghost use Rattle.finishes.specs.Entries.{Starts, steps, marked as markedWith, Whole, Serves, Passing};
+ghost use Rattle.finishes.specs.Entries.{Starts, steps, marked as marked_with, Whole, Serves, Passing};
 
 use deck::{Carrier, Task};
 
@@ -45,7 +47,7 @@ fn starts_of(s: &[u8]) -> [usize; 12]
 // An entry once the layer of k steps is there, which has this label at the carrier's start.
 fn marked(e: u16, label: u8, n: usize, k: usize) -> u16
     requires { k < 256 }
-    ensures { result ≡ markedWith n label k e }
+    ensures { result ≡ marked_with n label k e }
 {
     if e == BARRED {
         if n < wide8(label) {
@@ -97,7 +99,7 @@ fn mark(
     column: &mut [u16; 12],
 ) -> bool
     requires { (m ≤ 12) × (k < 256) × ((i : ℕ) → i < m → get_or starts.now i 0 < 1156) × (length column.old ≡ 12) }
-    ensures { Filled 0 m (λ i. markedWith n (get_or layer.now (get_or starts.now i 0) 0) k (get_or column.old i 0)) column.old column.new × (result ≡ true → (i : ℕ) → i < m → get_or column.new i 0 ≢ barred) }
+    ensures { Filled 0 m (λ i. marked_with n (get_or layer.now (get_or starts.now i 0) 0) k (get_or column.old i 0)) column.old column.new × (result ≡ true → (i : ℕ) → i < m → get_or column.new i 0 ≢ barred) }
 {
     let mut all = true;
     for i in 0..m {

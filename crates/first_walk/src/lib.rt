@@ -1,6 +1,8 @@
 // The first path in order that finishes at a given time, by a depth-first walk: from each place the five places around it in
 // order, those left out from which the lower bounds or the constraints say that the task is not finished in time. Places that
 // failed are remembered. The walk is cut off after a number of places.
+#![tactic(auto)]
+
 ghost use Rattle.std.specs.Prelude.{◌≡◌, ◌&&◌, suc, ◌+◌, ◌<◌, ◌≤◌, length, get_or, set, eqb};
 ghost use Rattle.deck.specs.Sheet.{read};
 ghost use Rattle.deck.specs.Calls.{constraints_of};
@@ -12,7 +14,7 @@ ghost use Rattle.first_walk.specs.Walk.{slot_of, code_of, Dead, Dived, Led, On, 
 
 use deck::{Carrier, Task};
 
-#[derive(Drop)]
+#[derive(Clone, Copy)]
 pub enum Tried {
     Found,
     NoWalk,
@@ -20,7 +22,7 @@ pub enum Tried {
 }
 
 // What a walk keeps to: the width, the number of goals, the time of the finish and the last goal.
-#[derive(Drop)]
+#[derive(Clone, Copy)]
 pub struct Seek {
     pub w: usize,
     pub n: usize,
@@ -29,7 +31,7 @@ pub struct Seek {
 }
 
 // A place that a step may lead to, its padded number, and how many goals are visited there.
-#[derive(Drop)]
+#[derive(Clone, Copy)]
 pub enum Ahead {
     Shut,
     To { v: usize, q: usize, c: usize },

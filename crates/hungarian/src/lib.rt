@@ -3,6 +3,8 @@
 // and is read and written by a carrier's number or by a task's, which are types of their own: prices has the prices of the rows
 // and the negated prices of the columns, so that all are unsigned; pairs has the task of each carrier and the carrier of each
 // task, 12 for none.
+#![tactic(auto)]
+
 ghost use Rattle.std.specs.Prelude.{◌≡◌, true, false, ℕ, suc, ◌+◌, ◌≤◌, ◌<◌, ◌^◌, length, set};
 ghost use Rattle.meaning.specs.Meaning.{◌at◌};
 ghost use Rattle.prices.specs.Square.{cell};
@@ -11,14 +13,14 @@ ghost use Rattle.hungarian.specs.Solving.{by_carrier, by_task, marked, slack_of,
 use deck::{Carrier, Task};
 
 // The length of the shortest way to a column so far, and its last row.
-#[derive(Drop)]
+#[derive(Clone, Copy)]
 pub struct Label {
     pub near: u64,
     pub from: Carrier,
 }
 
 // A column outside the tree, with the length of the shortest way to it.
-#[derive(Drop)]
+#[derive(Clone, Copy)]
 pub struct Edge {
     pub task: Task,
     pub near: u64,

@@ -1,4 +1,6 @@
 // The assignments in order: the first of them as lists, by the records of roots in the lent workspace.
+#![tactic(auto)]
+
 ghost use Rattle.std.specs.Prelude.{◌≡◌, List, ℕ, ◌+◌, ◌*◌, ◌<◌, ◌≤◌, min, length};
 ghost use Rattle.deck.specs.Assignments.{assignments_in_order};
 ghost use Rattle.prices.specs.Square.{copied};
@@ -9,7 +11,7 @@ use deck::causes;
 use roots::Choice;
 
 // The cause of a refusal, 0 for none, and how many assignments are listed.
-#[derive(Drop)]
+#[derive(Clone, Copy)]
 pub struct Count {
     pub cause: u8,
     pub count: usize,

@@ -1,5 +1,7 @@
 // Layers of labels on a padded grid: one byte for each padded place, the step from one layer to the next, and the layers that
 // are kept, four bytes to a word.
+#![tactic(auto)]
+
 ghost use Rattle.std.specs.Prelude.{◌≡◌, ◌⊎◌, ◌≢◌, true, cond, [], ◌+◌, ◌-◌, ◌*◌, ◌/◌, ◌<◌, ◌≤◌, max, min, length, get_or};
 ghost use Rattle.deck.specs.Calls.{constraints_of};
 ghost use Rattle.bars.specs.Ways.{opens_by};

@@ -1,5 +1,7 @@
 // The text that the program deckround prints (document 01, "Rounds worked out"), written into a lent buffer.
 // Bytes alone: nothing is read or printed here. Where the buffer is too short the text is cut off at its end.
+#![tactic(auto)]
+
 ghost use Rattle.std.specs.Prelude.{◌≡◌, ◌∷◌, [], ◌++◌, suc, ◌+◌, ◌%◌, ◌<◌, ◌≤◌, min, length, take, drop};
 ghost use Rattle.deck.specs.Lists.{pieces};
 ghost use Rattle.deck.specs.Sheet.{read, sheet_cause, count_of, horizon_of};

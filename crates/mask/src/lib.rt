@@ -1,4 +1,6 @@
 // The mask of an accepted sheet: which places are free, and by which ways they may be left, on the padded grid.
+#![tactic(auto)]
+
 ghost use Rattle.std.specs.Prelude.{◌≡◌, true, cond, ◌+◌, ◌-◌, ◌≤◌, max, length, get_or, replicate, eqb};
 ghost use Rattle.deck.specs.Sheet.{read, cause};
 ghost use Rattle.bars.specs.Padded.{shade_of, MaskOf};

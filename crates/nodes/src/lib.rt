@@ -1,5 +1,7 @@
 // The nodes of the search in the lent workspace, as the nodes of the search's definition: the choice of the next one, the
 // constraints along its links, its paths as places, and the making of roots and children.
+#![tactic(auto)]
+
 ghost use Rattle.std.specs.Prelude.{◌≡◌, List, [], ◌∷◌, ℕ, ◌+◌, ◌*◌, ◌-◌, ◌<◌, ◌≤◌, ◌%◌, min, length, take};
 ghost use Rattle.deck.specs.Lists.{sum, flat};
 ghost use Rattle.deck.specs.Sheet.{Sheet};
@@ -14,14 +16,14 @@ use deck::{Carrier, Constraint};
 use records::NodeHead;
 
 // The open node to take next, with its cost.
-#[derive(Drop)]
+#[derive(Clone, Copy)]
 pub enum Pick {
     Nothing,
     Open { n: usize, cost: usize },
 }
 
 // What makes a child: a constraint, and the carrier that it binds.
-#[derive(Drop)]
+#[derive(Clone, Copy)]
 pub struct Child {
     pub carrier: Carrier,
     pub constraint: Constraint,

@@ -1,4 +1,6 @@
 // Answers as numbers of 32 bits: every value of an answer is far below 2^32.
+#![tactic(auto)]
+
 ghost use Rattle.std.specs.Prelude.{◌≡◌, ◌++◌, ◌<◌, take};
 ghost use Rattle.deck.specs.Numbers.{path_numbers, assignment_numbers, collision_numbers, kind_numbers, search_numbers, check_numbers};
 ghost use Rattle.numbers.specs.Small.{word, SmallPath, SmallAssignment, SmallCollision, SmallFound, SmallSearch, SmallCheck};

@@ -1,5 +1,7 @@
 // A path in twenty words: a step is a digit of base 5, thirteen to a word, the first step of a word the lowest digit.
 // All twenty words are written, so that two packings of one path are equal word by word.
+#![tactic(auto)]
+
 ghost use Rattle.std.specs.Prelude.{◌≡◌, ◌+◌, ◌*◌, ◌-◌, ◌<◌, ◌≤◌, ◌%◌, min, length};
 ghost use Rattle.pack.specs.Pack.{tab, digit_of, step_at, value, pack_of, place_from, unpack_of};
 

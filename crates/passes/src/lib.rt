@@ -1,5 +1,7 @@
 // The two passes over layers of labels for one carrier and one task: forward for the least finish, backward for what can still
 // be finished in time from each place, with the layers kept in the workspace.
+#![tactic(auto)]
+
 ghost use Rattle.std.specs.Prelude.{◌≡◌, true, false, ◌&&◌, reverse, ℕ, ◌+◌, ◌-◌, ◌*◌, ◌<◌, ◌≤◌, length, get_or, leb, ltb};
 ghost use Rattle.deck.specs.Sheet.{read, start_of, goals_of, cause};
 ghost use Rattle.deck.specs.Calls.{constraints_of};

@@ -1,4 +1,6 @@
 // One carrier's least path: the public call.
+#![tactic(auto)]
+
 ghost use Rattle.deck.specs.Calls.{PathCall};
 ghost use Rattle.deck.specs.Numbers.{path_numbers};
 ghost use Rattle.path.specs.Meant.{Meant};

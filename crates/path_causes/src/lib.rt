@@ -1,4 +1,6 @@
 // The causes for which the single-path call declines, in document 01's order.
+#![tactic(auto)]
+
 ghost use Rattle.std.specs.Prelude.{◌≡◌, ◌+◌, ◌*◌, ◌/◌, ◌%◌, ◌<◌, length};
 ghost use Rattle.deck.specs.Sheet.{read, cause};
 ghost use Rattle.deck.specs.Calls.{record_word, good_tail, good_record, good_records, path_cause};

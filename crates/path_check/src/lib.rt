@@ -1,8 +1,10 @@
 // One carrier's path on an accepted sheet: its start, its steps, its goals and its finish.
+#![tactic(auto)]
+
 ghost use Rattle.std.specs.Prelude.{◌≡◌, ℕ, suc, ◌<◌, ◌≤◌, eqb, length, get_or, drop};
 ghost use Rattle.deck.specs.Lists.{is_nil};
 ghost use Rattle.deck.specs.Sheet.{Sheet, read, cause, width_of, horizon_of, words, free};
-ghost use Rattle.deck.specs.Paths.{one_apart, next_to, may_leave, beside, may_step, visit, left, finish as finishOn, finish_of};
+ghost use Rattle.deck.specs.Paths.{one_apart, next_to, may_leave, beside, may_step, visit, left, finish as finish_on, finish_of};
 ghost use Rattle.deck.specs.PlanCheck.{follows};
 ghost use Rattle.path_check.specs.Grids.{GridOf};
 ghost use Rattle.path_check.specs.Answers.{path_answer};
@@ -153,7 +155,7 @@ fn visits_all(goals: &[u8], path: &[u16]) -> bool
 
 // The least time from which the path stays on g; the length of the path where there is none.
 fn finish(path: &[u16], g: usize) -> usize
-    ensures { result ≡ finishOn g path.now }
+    ensures { result ≡ finish_on g path.now }
 {
     let mut t = path.len();
     while 0 < t {

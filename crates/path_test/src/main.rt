@@ -5,50 +5,59 @@
 // succession), lists of 0 to 4097 records that bar the least path so far or are another carrier's, waits and places barred on the last
 // goal up to the horizon, sheets without a path, each cause alone and with later ones, and the sheet of no bytes with records, workspace
 // and output of several lengths.
+#![tactic(auto)]
+
 ghost use Rattle.std.specs.Prelude.{◌≡◌, ◌<◌, ◌≤◌, length};
 
 use deck::{Carrier, PathAnswer, Task};
-use libc::{STDIN_FILENO, STDOUT_FILENO};
+use std::io;
 
 // The workspace is that of a sheet of 32 by 32 with horizon 255, up to 3 goals a task and node limit 1.
-fn main() {
+fn main(rt: HostRuntime) -> io::Result<()> {
     let mut buffer = [0u8; 524288];
     let mut work = [0u32; 1053184];
-    let n = io::read_full(STDIN_FILENO, &mut buffer);
-    cases(&buffer[..n], &mut work);
+    let n = testing::read_full(&rt, &mut buffer)?;
+    cases(&rt, &buffer[..n], &mut work)
 }
 
-fn cases(s: &[u8], work: &mut [u32]) {
+fn cases(rt: &impl Print, s: &[u8], work: &mut [u32]) -> io::Result<()> {
     let mut at = 0;
     while at < s.len() {
         let size = testing::number_at(&s[at..], 0);
         let count = testing::number_at(&s[at..], 2);
         let end = at + 16 + size + 2 * count;
         if s.len() < end {
-            return;
+            return Ok(());
         }
-        case(&s[at..end], size, count, work);
+        case(rt, &s[at..end], size, count, work)?;
         at = end;
     }
+    Ok(())
 }
 
-fn case(t: &[u8], size: usize, count: usize, work: &mut [u32]) {
+fn case(rt: &impl Print, t: &[u8], size: usize, count: usize, work: &mut [u32]) -> io::Result<()> {
     if 65535 < size {
-        return;
+        return Ok(());
     }
     if t.len() < 16 + size {
-        return;
+        return Ok(());
     }
     if 20490 < count {
-        return;
+        return Ok(());
     }
     let room = testing::number_at(t, 8) + 65536 * testing::number_at(t, 10);
     if work.len() < room {
-        return;
+        return Ok(());
     }
     let from = 16 + size;
     let ws = words(&t[from..]);
-    call(&t[0..16], &t[16..from], &ws[0..count], &mut work[0..room]);
+    call(
+        rt,
+        &t[0..16],
+        &t[16..from],
+        &ws[0..count],
+        &mut work[0..room],
+    )
 }
 
 // The first 20490 two-byte values: the words of 4098 records.
@@ -66,19 +75,25 @@ fn narrow(x: usize) -> u16 {
     (x % 65536) as u16
 }
 
-fn call(numbers: &[u8], s: &[u8], records: &[u16], work: &mut [u32]) {
+fn call(
+    rt: &impl Print,
+    numbers: &[u8],
+    s: &[u8],
+    records: &[u16],
+    work: &mut [u32],
+) -> io::Result<()> {
     let i = Carrier(testing::number_at(numbers, 4));
     let j = Task(testing::number_at(numbers, 6));
     let n = testing::number_at(numbers, 12);
     if 300 < n {
-        return;
+        return Ok(());
     }
     let junk = narrow(testing::number_at(numbers, 14));
     fill(work, twice(junk));
     let mut out = filled(junk);
     let a = path::least_path(s, i, j, work, &mut out[0..n], records);
-    report(a, work, twice(junk));
-    places(&out, changed(&out, junk));
+    report(rt, a, work, twice(junk))?;
+    places(rt, &out, changed(&out, junk))
 }
 
 fn twice(x: u16) -> u32 {
@@ -98,30 +113,30 @@ fn filled(x: u16) -> [u16; 300]
 }
 
 // The answer. A refused call leaves the workspace as it was.
-fn report(a: PathAnswer, work: &[u32], x: u32) {
+fn report(rt: &impl Print, a: PathAnswer, work: &[u32], x: u32) -> io::Result<()> {
     match a {
         PathAnswer::Found(t) => {
-            io::write_all(STDOUT_FILENO, b"found ");
-            io::print_decimal(STDOUT_FILENO, t as u64);
+            print!(rt; "found {t}")?;
         }
         PathAnswer::NoPath => {
-            io::write_all(STDOUT_FILENO, b"none");
+            print!(rt; "none")?;
         }
         PathAnswer::Refused(c) => {
-            io::write_all(STDOUT_FILENO, b"refused ");
-            io::print_decimal(STDOUT_FILENO, c as u64);
-            untouched(work, x);
+            print!(rt; "refused {c}")?;
+            untouched(rt, work, x)?;
         }
     }
+    Ok(())
 }
 
-fn untouched(work: &[u32], x: u32) {
+fn untouched(rt: &impl Print, work: &[u32], x: u32) -> io::Result<()> {
     for k in 0..work.len() {
         if work[k] != x {
-            io::write_all(STDOUT_FILENO, b" workspace changed");
-            return;
+            print!(rt; " workspace changed")?;
+            return Ok(());
         }
     }
+    Ok(())
 }
 
 // How many words there are up to the last that is not x.
@@ -142,23 +157,23 @@ fn further(n: usize, k: usize, y: u16, x: u16) -> usize
     if x == y { n } else { k + 1 }
 }
 
-fn places(out: &[u16; 300], n: usize)
+fn places(rt: &impl Print, out: &[u16; 300], n: usize) -> io::Result<()>
     requires { n ≤ 300 }
 {
-    colon(n);
+    colon(rt, n)?;
     for k in 0..n {
-        place(out[k]);
+        place(rt, out[k])?;
     }
-    io::write_all(STDOUT_FILENO, b"\n");
+    print!(rt; "\n")
 }
 
-fn colon(n: usize) {
+fn colon(rt: &impl Print, n: usize) -> io::Result<()> {
     if 0 < n {
-        io::write_all(STDOUT_FILENO, b":");
+        print!(rt; ":")?;
     }
+    Ok(())
 }
 
-fn place(v: u16) {
-    io::write_all(STDOUT_FILENO, b" ");
-    io::print_decimal(STDOUT_FILENO, v as u64);
+fn place(rt: &impl Print, v: u16) -> io::Result<()> {
+    print!(rt; " {v}")
 }

@@ -1,4 +1,6 @@
 // The plan check of document 01: yes exactly for a plan, with its flowtime.
+#![tactic(auto)]
+
 mod tasks;
 
 ghost use Rattle.std.specs.Prelude.{◌≡◌, suc, ◌*◌, ◌<◌, ◌≤◌, length, take};

@@ -1,4 +1,6 @@
 // The search of an accepted sheet that has bytes, with room enough: the first root, the turns, and the answer for their end.
+#![tactic(auto)]
+
 ghost use Rattle.std.specs.Prelude.{◌≡◌, List, ℕ, ◌+◌, ◌*◌, ◌<◌, ◌≤◌, length};
 ghost use Rattle.std.proofs.Math.Option.{some};
 ghost use Rattle.deck.specs.Sheet.{read, count_of, cause};

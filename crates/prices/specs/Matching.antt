@@ -40,7 +40,7 @@ pub record Raised (m : ℕ) (marks : ℕ → Bool) (d : ℕ) (f g : ℕ → ℕ)
 pub record LeastSlack (m : ℕ) (c : ℕ → ℕ → ℕ) (u v : ℕ → ℕ) (rows columns : ℕ → Bool) (i j d : ℕ) : Type 0 where
   pub low_row : i < m
   pub low_column : j < m
-  pub from_row_lem : rows i ≡ true
+  pub from_row : rows i ≡ true
   pub to_column : columns j ≡ false
   pub slack : u i + d ≡ c i j + v j
   pub least : (x y : ℕ) → x < m → y < m → rows x ≡ true → columns y ≡ false → u x + d ≤ c x y + v y
@@ -49,7 +49,7 @@ pub record LeastSlack (m : ℕ) (c : ℕ → ℕ → ℕ) (u v : ℕ → ℕ) (r
 pub record Matches (m : ℕ) (c : ℕ → ℕ → ℕ) (r : ℕ) (u v task carrier : ℕ → ℕ) : Type 0 where
   pub feasible : Feasible m c u v
   pub tight : (j : ℕ) → j < m → carrier j < m → Tight c u v (carrier j) j
-  pub task_of_lem : (j : ℕ) → j < m → carrier j < m → task (carrier j) ≡ j
+  pub task_of : (j : ℕ) → j < m → carrier j < m → task (carrier j) ≡ j
   pub carrier_of : (i : ℕ) → i < m → task i < m → carrier (task i) ≡ i
   pub unpriced : (j : ℕ) → j < m → m ≤ carrier j → v j ≡ 0
   pub matched : (i : ℕ) → i < r → task i < m
@@ -80,7 +80,7 @@ pub record Turning (m : ℕ) (c : ℕ → ℕ → ℕ) (r : ℕ) (u v task carri
   pub low : j < m
   pub reached : Reached m c u v task rows from order j
   pub tight : (k : ℕ) → k < m → k ≢ j → carrier' k < m → Tight c u v (carrier' k) k
-  pub task_of_lem : (k : ℕ) → k < m → k ≢ j → carrier' k < m → task' (carrier' k) ≡ k
+  pub task_of : (k : ℕ) → k < m → k ≢ j → carrier' k < m → task' (carrier' k) ≡ k
   pub carrier_of : (i : ℕ) → i < m → task' i < m → (carrier' (task' i) ≡ i) × (task' i ≢ j)
   pub unpriced : (k : ℕ) → k < m → k ≢ j → m ≤ carrier' k → v k ≡ 0
   pub matched : (i : ℕ) → i < r → task' i < m

@@ -1,5 +1,7 @@
 // The records of the search's nodes in the lent workspace: record n at words 512 n to 512 n + 511, and past all `limit` records
 // a key for each node. Every field is read and written here and nowhere else.
+#![tactic(auto)]
+
 ghost use Rattle.std.specs.Prelude.{◌≡◌, [], ◌∷◌, ◌+◌, ◌*◌, ◌<◌, ◌≤◌, ◌%◌, length, get_or, set, replicate, eqb};
 ghost use Rattle.deck.specs.Lists.{sum};
 ghost use Rattle.deck.specs.Sheet.{task};
@@ -9,7 +11,7 @@ ghost use Rattle.records.specs.Record.{fields, fields_at, link_in, root_in, cons
 use deck::{Carrier, Constraint, Task};
 
 // What a node's record says of where it comes from: its link, 0 for a root and else parent + 1, and its own constraint.
-#[derive(Drop)]
+#[derive(Clone, Copy)]
 pub struct NodeHead {
     pub link: usize,
     pub constraint: Constraint,

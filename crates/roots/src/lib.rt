@@ -1,6 +1,8 @@
 // The assignments that remain, in the records of the roots: Murty's parts, each in a slot of the root that it was split from, with
 // its first assignment. The next assignment in order is the first of these; a tournament tree over the numbers of the nodes says
 // which slot has it.
+#![tactic(auto)]
+
 ghost use Rattle.std.specs.Prelude.{◌≡◌, List, ℕ, ◌+◌, ◌*◌, ◌-◌, ◌<◌, ◌≤◌, length};
 ghost use Rattle.std.proofs.Math.Option.{some};
 ghost use Rattle.deck.specs.Lists.{count_from};
@@ -18,14 +20,14 @@ use candidates::Candidate;
 use deck::Carrier;
 
 // The slot to take next.
-#[derive(Drop)]
+#[derive(Clone, Copy)]
 pub enum Choice {
     Nothing,
     Slot { n: usize, j: usize },
 }
 
 // What the root of an assignment is made of: its list of 12, and the row and the closed tasks of its part.
-#[derive(Drop)]
+#[derive(Clone, Copy)]
 pub struct RootPart {
     pub tasks: [u8; 12],
     pub row: usize,

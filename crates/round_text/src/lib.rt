@@ -1,5 +1,7 @@
 // The round of a job sheet, from its bytes to the text that the program deckround prints (document 01, "Rounds worked out").
 // Bytes alone: nothing is read or printed here.
+#![tactic(auto)]
+
 ghost use Rattle.std.specs.Prelude.{◌≡◌, List, ◌++◌, ℕ, ◌≤◌, ◌<◌, length, take, drop};
 ghost use Rattle.deck.specs.Calls.{SearchCall};
 ghost use Rattle.deck.specs.Numbers.{search_numbers};

@@ -1,4 +1,6 @@
 // One carrier's least path within the search's workspace, where the nodes stand too.
+#![tactic(auto)]
+
 ghost use Rattle.std.specs.Prelude.{◌≡◌, ℕ, suc, ◌≤◌, length};
 ghost use Rattle.deck.specs.Sheet.{read};
 ghost use Rattle.deck.specs.Paths.{least_path};
@@ -12,7 +14,7 @@ use deck::{Carrier, PathAnswer, Task};
 use first_walk::Tried;
 
 // What the walk says of the least path: found, with its finish; or none finishes before a time.
-#[derive(Drop)]
+#[derive(Clone, Copy)]
 pub enum Sought {
     Found(usize),
     After(usize),

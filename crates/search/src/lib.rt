@@ -1,4 +1,6 @@
 // The search for a plan of least flowtime, from sheet to answer: the call.
+#![tactic(auto)]
+
 ghost use Rattle.std.specs.Prelude.{◌≡◌};
 ghost use Rattle.deck.specs.Sheet.{read};
 ghost use Rattle.deck.specs.Calls.{search_cause, SearchCall};

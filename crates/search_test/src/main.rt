@@ -7,41 +7,44 @@
 // one sum), grids of one row and of one column, finishes above 200, grids up to 32 by 32; each cause alone and with later ones,
 // workspace and output exact and one word short; and the sheet of no bytes with workspace and output of several lengths, each time
 // before a refused sheet that finds the workspace as it was left.
+#![tactic(auto)]
+
 ghost use Rattle.std.specs.Prelude.{◌≡◌, ◌<◌, ◌≤◌, length};
 
 use deck::{SearchAnswer, SearchKind};
-use libc::{STDIN_FILENO, STDOUT_FILENO};
+use std::io;
 
 // The workspace is that of a sheet of 32 by 32 with horizon 255, up to 3 goals a task and node limit 1, and of small sheets with
 // node limit 2048.
-fn main() {
+fn main(rt: HostRuntime) -> io::Result<()> {
     let mut buffer = [0u8; 131072];
     let mut work = [0u32; 1053184];
-    let n = io::read_full(STDIN_FILENO, &mut buffer);
-    cases(&buffer[..n], &mut work);
+    let n = testing::read_full(&rt, &mut buffer)?;
+    cases(&rt, &buffer[..n], &mut work)
 }
 
-fn cases(s: &[u8], work: &mut [u32]) {
+fn cases(rt: &impl Print, s: &[u8], work: &mut [u32]) -> io::Result<()> {
     let mut at = 0;
     while at < s.len() {
         let end = at + 16 + testing::number_at(&s[at..], 0);
         if s.len() < end {
-            return;
+            return Ok(());
         }
-        case(&s[at..end], work);
+        case(rt, &s[at..end], work)?;
         at = end;
     }
+    Ok(())
 }
 
-fn case(t: &[u8], work: &mut [u32]) {
+fn case(rt: &impl Print, t: &[u8], work: &mut [u32]) -> io::Result<()> {
     if t.len() < 16 {
-        return;
+        return Ok(());
     }
     let room = double_at(t, 2);
     if work.len() < room {
-        return;
+        return Ok(());
     }
-    call(&t[0..16], &t[16..], &mut work[0..room]);
+    call(rt, &t[0..16], &t[16..], &mut work[0..room])
 }
 
 // The value of two halves at k, the low one first.
@@ -52,18 +55,18 @@ fn double_at(s: &[u8], k: usize) -> usize
     testing::number_at(s, k) + 65536 * testing::number_at(s, k + 2)
 }
 
-fn call(numbers: &[u8], s: &[u8], work: &mut [u32]) {
+fn call(rt: &impl Print, numbers: &[u8], s: &[u8], work: &mut [u32]) -> io::Result<()> {
     let n = testing::number_at(numbers, 6);
     if 3100 < n {
-        return;
+        return Ok(());
     }
     let junk = narrow(testing::number_at(numbers, 8));
     let x = double_at(numbers, 10) as u32;
     prepare(work, x, testing::number_at(numbers, 14));
     let mut out = filled(junk);
     let a = search::search(s, work, &mut out[0..n]);
-    report(a, work, x);
-    places(&out, changed(&out, junk));
+    report(rt, a, work, x)?;
+    places(rt, &out, changed(&out, junk))
 }
 
 fn narrow(x: usize) -> u16 {
@@ -89,53 +92,52 @@ fn filled(x: u16) -> [u16; 3100]
     [x; 3100]
 }
 
-fn report(a: SearchAnswer, work: &[u32], x: u32) {
+fn report(rt: &impl Print, a: SearchAnswer, work: &[u32], x: u32) -> io::Result<()> {
     let kind = a.kind;
     let tasks = a.tasks;
-    print_kind(kind, work, x);
-    io::write_all(STDOUT_FILENO, b" flowtime ");
-    io::print_decimal(STDOUT_FILENO, a.flowtime as u64);
-    io::write_all(STDOUT_FILENO, b" nodes ");
-    io::print_decimal(STDOUT_FILENO, a.nodes as u64);
-    io::write_all(STDOUT_FILENO, b" bound ");
-    io::print_decimal(STDOUT_FILENO, a.bound as u64);
-    print_tasks(&tasks);
+    print_kind(rt, kind, work, x)?;
+    print!(rt; " flowtime {}", a.flowtime)?;
+    print!(rt; " nodes {}", a.nodes)?;
+    print!(rt; " bound {}", a.bound)?;
+    print_tasks(rt, &tasks)
 }
 
 // A refused call leaves the workspace as it was.
-fn print_kind(kind: SearchKind, work: &[u32], x: u32) {
+fn print_kind(rt: &impl Print, kind: SearchKind, work: &[u32], x: u32) -> io::Result<()> {
     match kind {
         SearchKind::Plan => {
-            io::write_all(STDOUT_FILENO, b"plan");
+            print!(rt; "plan")?;
         }
         SearchKind::NoPlan => {
-            io::write_all(STDOUT_FILENO, b"none");
+            print!(rt; "none")?;
         }
         SearchKind::Spent => {
-            io::write_all(STDOUT_FILENO, b"spent");
+            print!(rt; "spent")?;
         }
         SearchKind::Refused(c) => {
-            io::write_all(STDOUT_FILENO, b"refused ");
-            io::print_decimal(STDOUT_FILENO, c as u64);
-            untouched(work, x);
+            print!(rt; "refused {c}")?;
+            untouched(rt, work, x)?;
         }
     }
+    Ok(())
 }
 
-fn untouched(work: &[u32], x: u32) {
+fn untouched(rt: &impl Print, work: &[u32], x: u32) -> io::Result<()> {
     for k in 0..work.len() {
         if work[k] != x {
-            io::write_all(STDOUT_FILENO, b" workspace changed");
-            return;
+            print!(rt; " workspace changed")?;
+            return Ok(());
         }
     }
+    Ok(())
 }
 
-fn print_tasks(tasks: &[u8; 12]) {
-    io::write_all(STDOUT_FILENO, b" tasks");
+fn print_tasks(rt: &impl Print, tasks: &[u8; 12]) -> io::Result<()> {
+    print!(rt; " tasks")?;
     for i in 0..12usize {
-        task(tasks[i]);
+        task(rt, tasks[i])?;
     }
+    Ok(())
 }
 
 // How many words there are up to the last that is not x.
@@ -156,31 +158,31 @@ fn further(n: usize, k: usize, y: u16, x: u16) -> usize
     if x == y { n } else { k + 1 }
 }
 
-fn places(out: &[u16; 3100], n: usize)
+fn places(rt: &impl Print, out: &[u16; 3100], n: usize) -> io::Result<()>
     requires { n ≤ 3100 }
 {
-    colon(n);
+    colon(rt, n)?;
     for k in 0..n {
-        place(out[k]);
+        place(rt, out[k])?;
     }
-    io::write_all(STDOUT_FILENO, b"\n");
+    print!(rt; "\n")
 }
 
-fn colon(n: usize) {
+fn colon(rt: &impl Print, n: usize) -> io::Result<()> {
     if 0 < n {
-        io::write_all(STDOUT_FILENO, b":");
+        print!(rt; ":")?;
     }
+    Ok(())
 }
 
-fn place(v: u16) {
-    item(v as u64);
+fn place(rt: &impl Print, v: u16) -> io::Result<()> {
+    item(rt, v as u64)
 }
 
-fn task(j: u8) {
-    item(j as u64);
+fn task(rt: &impl Print, j: u8) -> io::Result<()> {
+    item(rt, j as u64)
 }
 
-fn item(v: u64) {
-    io::write_all(STDOUT_FILENO, b" ");
-    io::print_decimal(STDOUT_FILENO, v);
+fn item(rt: &impl Print, v: u64) -> io::Result<()> {
+    print!(rt; " {v}")
 }

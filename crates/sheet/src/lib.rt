@@ -1,6 +1,8 @@
 // The calls that read a job sheet (document 01, "The job sheet"). Each equals its definition on any bytes whatever: a byte past the
 // end reads 0, a stretch is cut off where the sheet ends, and a task from m on has no goals. What holds of a sheet without causes
 // alone is said as an implication.
+#![tactic(auto)]
+
 ghost use Rattle.std.specs.Prelude.{◌≡◌, ◌<◌, ◌≤◌, max, length, get_or};
 ghost use Rattle.deck.specs.Sheet.{width_of, height_of, count_of, horizon_of, limit_of, part, grid_stretch, read, area, grid_byte, free, start_of, goals_of, last_goal, most_goals, cause, sheet_cause};
 ghost use Rattle.deck.specs.Calls.{workspace_for, workspace_of, read_call, goals_call};

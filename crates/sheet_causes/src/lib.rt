@@ -1,4 +1,6 @@
 // The causes that lie in the sheet itself, one pass for each.
+#![tactic(auto)]
+
 ghost use Rattle.std.specs.Prelude.{◌≡◌, ◌<◌, leb, length, get_or, drop};
 ghost use Rattle.deck.specs.Lists.{below, within, all, has, distinct};
 ghost use Rattle.deck.specs.Sheet.{count_of, pairs_for, directory_end, task, task_stretch, words, read, free, good_header, chained, goals_size, good_directory, good_grid, good_starts, good_goals, good_last_goals, cause, sheet_cause};
@@ -130,7 +132,7 @@ fn places_free(s: &[u8], p: &[u8]) -> bool
 }
 
 // The places that must differ from each other.
-#[derive(Drop)]
+#[derive(Clone, Copy)]
 enum Compared {
     Starts,
     LastGoals,

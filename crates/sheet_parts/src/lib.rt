@@ -1,5 +1,7 @@
 // The bytes of a job sheet, the pairs of its directory, and the stretches that they name as parts of the caller's slice. Of any bytes
 // whatever: a byte past the end reads 0, and a stretch is cut off where the sheet ends, as in the definitions.
+#![tactic(auto)]
+
 ghost use Rattle.std.specs.Prelude.{◌≡◌, ◌<◌, ◌≤◌, min, length, get_or};
 ghost use Rattle.deck.specs.Lists.{last};
 ghost use Rattle.deck.specs.Sheet.{byte_at, word_at, width_of, height_of, count_of, horizon_of, limit_of, part, pair_at, pairs_for, directory_end, words, read, area, grid_byte, free, goals_of};

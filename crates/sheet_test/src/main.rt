@@ -1,79 +1,83 @@
 // Reads stored sheets, each after its length in two bytes, and writes a line for each: the cause and, of an accepted sheet, what the
 // reader and the accessors hand back, in parts: the header, the directory's pairs, the starts, of each task the goals as bytes and as
 // places, the numbers of free and of blocked places, and the workspace. Of a refused sheet the parts are what a refusal hands back.
-use deck::{Carrier, MOST_PAIRS, Reading, Task};
-use libc::{STDIN_FILENO, STDOUT_FILENO};
+#![tactic(auto)]
 
-fn put(x: usize) {
-    io::write_all(STDOUT_FILENO, b" ");
-    io::print_decimal(STDOUT_FILENO, x as u64);
+use deck::{Carrier, MOST_PAIRS, Reading, Task};
+use std::io;
+
+fn put(rt: &impl Print, x: usize) -> io::Result<()> {
+    print!(rt; " {x}")
 }
 
-fn put_byte(x: u8) {
-    put(x as usize);
+fn put_byte(rt: &impl Print, x: u8) -> io::Result<()> {
+    put(rt, x as usize)
 }
 
 // The start of a further part of the line.
-fn part() {
-    io::write_all(STDOUT_FILENO, b" /");
+fn part(rt: &impl Print) -> io::Result<()> {
+    print!(rt; " /")
 }
 
-fn header(r: Reading) {
-    put(r.width);
-    put(r.height);
-    put(r.count);
-    put(r.horizon);
-    put(r.limit);
+fn header(rt: &impl Print, r: Reading) -> io::Result<()> {
+    put(rt, r.width)?;
+    put(rt, r.height)?;
+    put(rt, r.count)?;
+    put(rt, r.horizon)?;
+    put(rt, r.limit)
 }
 
 // All pairs that there can be: those past the last are zeros.
-fn pairs(r: Reading) {
-    part();
+fn pairs(rt: &impl Print, r: Reading) -> io::Result<()> {
+    part(rt)?;
     let offsets = r.offsets;
     let lengths = r.lengths;
     for k in 0..MOST_PAIRS {
-        put(offsets[k]);
-        put(lengths[k]);
+        put(rt, offsets[k])?;
+        put(rt, lengths[k])?;
     }
+    Ok(())
 }
 
-fn starts(s: &[u8], m: usize) {
-    part();
+fn starts(rt: &impl Print, s: &[u8], m: usize) -> io::Result<()> {
+    part(rt)?;
     for i in 0..m {
-        put(sheet::start(s, Carrier(i)));
+        put(rt, sheet::start(s, Carrier(i)))?;
     }
+    Ok(())
 }
 
-fn bytes(p: &[u8]) {
-    part();
+fn bytes(rt: &impl Print, p: &[u8]) -> io::Result<()> {
+    part(rt)?;
     let n = p.len();
     for k in 0..n {
-        put_byte(p[k]);
+        put_byte(rt, p[k])?;
     }
+    Ok(())
 }
 
 // The goals, and the last of them once more.
-fn goals(s: &[u8], j: Task) {
-    part();
+fn goals(rt: &impl Print, s: &[u8], j: Task) -> io::Result<()> {
+    part(rt)?;
     let n = sheet::goal_count(s, j);
     for k in 0..n {
-        put(sheet::goal(s, j, k));
+        put(rt, sheet::goal(s, j, k))?;
     }
-    put(sheet::last_goal(s, j));
+    put(rt, sheet::last_goal(s, j))
 }
 
 // As bytes and as places.
-fn task(s: &[u8], j: usize) {
-    bytes(sheet::task_goals(s, Task(j)));
-    goals(s, Task(j));
+fn task(rt: &impl Print, s: &[u8], j: usize) -> io::Result<()> {
+    bytes(rt, sheet::task_goals(s, Task(j)))?;
+    goals(rt, s, Task(j))
 }
 
 // Of one task more than there are: that one has no goals.
-fn tasks(s: &[u8], m: usize) {
+fn tasks(rt: &impl Print, s: &[u8], m: usize) -> io::Result<()> {
     for j in 0..m {
-        task(s, j);
+        task(rt, s, j)?;
     }
-    task(s, m);
+    task(rt, s, m)
 }
 
 // How many of the first n places are free.
@@ -99,52 +103,54 @@ fn places_with(s: &[u8], n: usize, b: u8) -> usize {
 }
 
 // How many places are blocked, and how many are lanes to the north, east, south and west.
-fn marks(s: &[u8]) {
+fn marks(rt: &impl Print, s: &[u8]) -> io::Result<()> {
     for b in 1..6u8 {
-        put(places_with(s, 1024, b));
+        put(rt, places_with(s, 1024, b))?;
     }
+    Ok(())
 }
 
-fn accepted(s: &[u8], r: Reading) {
-    header(r);
-    pairs(r);
-    starts(s, r.count);
-    tasks(s, r.count);
-    part();
-    put(free_places(s, 1024));
-    marks(s);
-    put(sheet::workspace(s));
+fn accepted(rt: &impl Print, s: &[u8], r: Reading) -> io::Result<()> {
+    header(rt, r)?;
+    pairs(rt, r)?;
+    starts(rt, s, r.count)?;
+    tasks(rt, s, r.count)?;
+    part(rt)?;
+    put(rt, free_places(s, 1024))?;
+    marks(rt, s)?;
+    put(rt, sheet::workspace(s))
 }
 
-fn line(s: &[u8]) {
+fn line(rt: &impl Print, s: &[u8]) -> io::Result<()> {
     let r = sheet::read(s);
-    io::print_decimal(STDOUT_FILENO, r.cause as u64);
+    print!(rt; "{}", r.cause)?;
     if r.cause == 0 {
-        accepted(s, r);
+        accepted(rt, s, r)?;
     } else {
-        header(r);
-        pairs(r);
-        bytes(sheet::task_goals(s, Task(0)));
+        header(rt, r)?;
+        pairs(rt, r)?;
+        bytes(rt, sheet::task_goals(s, Task(0)))?;
     }
-    io::write_all(STDOUT_FILENO, b"\n");
+    print!(rt; "\n")
 }
 
 // A line for each sheet; a last one that is cut off is left out.
-fn lines(all: &[u8]) {
+fn lines(rt: &impl Print, all: &[u8]) -> io::Result<()> {
     let mut at = 0;
     while at + 2 <= all.len() {
         let n = testing::number_at(all, at);
         let start = at + 2;
         if all.len() - start < n {
-            return;
+            return Ok(());
         }
-        line(&all[start..start + n]);
+        line(rt, &all[start..start + n])?;
         at = start + n;
     }
+    Ok(())
 }
 
-fn main() {
-    let mut space = io::large_buffer();
-    let n = io::read_full(STDIN_FILENO, &mut space);
-    lines(&space[..n]);
+fn main(rt: HostRuntime) -> io::Result<()> {
+    let mut space = [0u8; 65536];
+    let n = testing::read_full(&rt, &mut space)?;
+    lines(&rt, &space[..n])
 }

@@ -1,5 +1,7 @@
 // Working copies of tables of entries, twelve to a row, and the weights of their entries; 65535 bars an entry. A carrier's number
 // and a task's number index them as types of their own, so that neither takes the other's place.
+#![tactic(auto)]
+
 ghost use Rattle.std.specs.Prelude.{◌≡◌, ℕ, ◌+◌, ◌*◌, ◌≤◌, ◌<◌, length, set};
 ghost use Rattle.meaning.specs.Meaning.{◌at◌};
 ghost use Rattle.deck.specs.Assignments.{entry_at};

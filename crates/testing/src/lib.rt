@@ -1,5 +1,10 @@
 // What the test programs share: the numbers of a stored input, and lines of output.
-ghost use Rattle.std.specs.Prelude.{◌≡◌, ◌<◌, length};
+#![tactic(auto)]
+
+ghost use Rattle.std.specs.Prelude.{◌≡◌, ◌<◌, ◌≤◌, IfOk, length};
+
+use std::io;
+use std::io::Read;
 
 fn byte_at(s: &[u8], k: usize) -> usize
     ensures { result < 256 }
@@ -35,21 +40,37 @@ pub fn words(s: &[u8]) -> [u16; 4096]
     ws
 }
 
+// Reads until buf is full or the input ends, and gives how many bytes it put at the start of buf.
+pub fn read_full(rt: &impl Input, buf: &mut [u8]) -> io::Result<usize>
+    ensures { IfOk result (λ n. n ≤ length buf.new) }
+{
+    let mut reader = rt.reader();
+    let mut done = 0;
+    while done < buf.len() {
+        let n = reader.read(&mut buf[done..])?;
+        if n == 0 {
+            break;
+        }
+        done += n;
+    }
+    Ok(done)
+}
+
 // One line of numbers.
-pub fn print_line(numbers: &[usize]) {
+pub fn print_line(rt: &impl Print, numbers: &[usize]) -> io::Result<()> {
     for k in 0..numbers.len() {
-        print_field(k, numbers[k]);
+        print_field(rt, k, numbers[k])?;
     }
-    end_line();
+    end_line(rt)
 }
 
-fn end_line() {
-    io::write_all(libc::STDOUT_FILENO, b"\n");
+fn end_line(rt: &impl Print) -> io::Result<()> {
+    println!(rt; "")
 }
 
-fn print_field(k: usize, n: usize) {
+fn print_field(rt: &impl Print, k: usize, n: usize) -> io::Result<()> {
     if 0 < k {
-        io::write_all(libc::STDOUT_FILENO, b" ");
+        print!(rt; " ")?;
     }
-    io::print_decimal(libc::STDOUT_FILENO, n as u64);
+    print!(rt; "{n}")
 }

@@ -1,5 +1,7 @@
 // The trace: from the start, step by step to the least place from which the task is still finished in time, by the layers of
 // the backward pass; then the carrier stays on its last goal.
+#![tactic(auto)]
+
 ghost use Rattle.std.specs.Prelude.{◌≡◌, suc, ◌+◌, ◌-◌, ◌*◌, ◌/◌, ◌<◌, ◌≤◌, length};
 ghost use Rattle.deck.specs.Sheet.{read, goals_of};
 ghost use Rattle.deck.specs.Calls.{constraints_of, overwrite};
@@ -14,7 +16,7 @@ use deck::{Carrier, Task};
 
 // A look around the place u with the padded number p, at time t with the label k of n: the layer of t + 1 is kept from the word
 // `at` on.
-#[derive(Drop)]
+#[derive(Clone, Copy)]
 pub struct Look {
     pub i: Carrier,
     pub t: usize,

@@ -1,7 +1,7 @@
 -- What a turn and the end of the search on the workspace are to the definition's. Assumes nothing.
 use Rattle.std.specs.Prelude.{ℕ, ◌<◌, ◌≡◌, List, get_or}
 use Rattle.deck.specs.Sheet.{Sheet}
-use Rattle.deck.specs.Search.{State, Turn, done, more, Answer, plan, no_plan, spent, turn}
+use Rattle.deck.specs.Search.{State, Turn, done, more, Answer, plan, no_plan, spent}
 use Rattle.deck.specs.Planner.{problem}
 use Rattle.deck.specs.Calls.{task_list}
 use Rattle.deck.specs.declared.Constraint.{Constraint}

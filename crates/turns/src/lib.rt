@@ -1,4 +1,6 @@
 // The turns of the search on the workspace.
+#![tactic(auto)]
+
 ghost use Rattle.std.specs.Prelude.{◌≡◌, List, [], ◌∷◌, ℕ, ◌+◌, ◌*◌, ◌<◌, ◌≤◌, length};
 ghost use Rattle.deck.specs.Sheet.{read, count_of, cause};
 ghost use Rattle.deck.specs.Search.{State, root_of, rest_after, turn, cheapest};
@@ -17,7 +19,7 @@ use expand::Grown;
 use nodes::{Child, Pick};
 
 // What a turn comes to: more nodes, the node that is the plan, no open node, or a node was to be made and none is left.
-#[derive(Drop)]
+#[derive(Clone, Copy)]
 pub enum Turned {
     More { made: usize, latest: usize },
     Plan { n: usize, cost: usize },
@@ -26,7 +28,7 @@ pub enum Turned {
 }
 
 // What the search comes to; beside a plan or none, how many nodes are made.
-#[derive(Drop)]
+#[derive(Clone, Copy)]
 pub enum End {
     Plan { n: usize, cost: usize, made: usize },
     NoPlan(usize),
