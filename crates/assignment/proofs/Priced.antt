@@ -11,7 +11,7 @@ use lib.ListN.{length, get_or, set, replicate, length-set, get_or-replicate}
 use lib.Seq.{get_or-set_same, get_or-set_other}
 use lib.IntN.{ℤ, pos, negsuc, neg_ℤ, sub_ℕ, ◌+ℤ◌, ◌-ℤ◌, +ℤ_idl}
 use lib.Signed.{mag, ◌≤ℤ◌, le_z_yes}
-use lib.Dec.{ltb, leb, le→leb}
+use lib.Dec.{ltb, le→leb}
 use borrow.Author.Tests.{le-ltb}
 use mir.Syntax.{w32}
 use mir.Val.{SFits, to_z}

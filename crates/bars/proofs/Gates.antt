@@ -7,8 +7,8 @@ use native.Mathlib.Omega.{arith}
 use lib.Dec.{T, ltb, eqb}
 use Rattle.deck.specs.Sheet.{Sheet, area, grid_byte, free}
 use Rattle.kernel.proofs.Both.{and_right}
-use Rattle.bars.specs.Padded.{shade, shade_of, Gate}
-use Rattle.bars.specs.Ways.{byte_leaves, leaves, opens_by}
+use Rattle.bars.specs.Padded.{shade, Gate}
+use Rattle.bars.specs.Ways.{leaves, opens_by}
 
 -- a place lets labels through where it is free
 pub shade_gate : (d : Sheet) (v : ℕ) → Gate (free d v) (shade d v)

@@ -83,7 +83,7 @@ module _ (rs : List ℕ) (i : ℕ) where
 
       new : (s : ℕ) → Dec (s ≡ t) → s < 256 → get_or (set heads t v) s 0 ≡ chain rs i s (suc k)
       new s (yes x) b =
-          rw x
+          subst (λ (z : ℕ). get_or (set heads t v) z 0 ≡ chain rs i z (suc k)) (sym x)
           (get_or-set_same heads t v 0 (omega (arith, m.size)) ∙ g ∙ ap (cond (eqb (record_word rs k 1) i) (suc k)) (m.head t l)
           ∙ here (eqb (record_word rs k 1) i) (eqb (record_word rs k 4) t) (eq-eqb (record_word rs k 4) t (sym e)))
       new s (no x) b = get_or-set_other heads t s v 0 x ∙ m.head s b ∙ skip (eqb (record_word rs k 1) i) (eqb (record_word rs k 4) s) (ne_eqb (record_word rs k 4) s (λ y. x (sym y ∙ sym e)))

@@ -1,7 +1,6 @@
 -- The least path of a child, as the search's definition has it, and what it leaves of the workspace. Assumes nothing.
 use Prim.Native.Nat.{ℕ, suc, ◌+◌, ◌*◌, ◌<◌, ◌≤◌}
 use mathlib.Core.Path.{◌≡◌, refl, sym, ap, ap₂, subst, ◌∙◌}
-use mathlib.Core.Logic.{⊎_elim}
 use mathlib.Core.Bool.{Bool, true, false, cond}
 use mathlib.Core.List.Memᴰ.{head as here}
 use mathlib.Core.List.Memᴰ.{tail as there}
@@ -10,8 +9,6 @@ use mathlib.Core.Option.{Option, none, some}
 use native.Mathlib.Omega.{arith}
 use lib.ListN.{length, get_or, take, drop}
 use lib.Seq.{take_at}
-use types.Run.{OneOf}
-use denote.Enum.Declared.{tag_of}
 use borrow.Author.Tests.{le-ltb, lt-ltb}
 use Rattle.deck.specs.Lists.{select, each}
 use Rattle.deck.specs.Sheet.{Sheet, read, carrier, task, start_of, count_of}
@@ -24,9 +21,7 @@ use Rattle.deck.specs.declared.Carrier.{Carrier}
 use Rattle.deck.specs.declared.Task.{Task}
 use Rattle.deck.specs.declared.PathAnswer.{PathAnswer}
 use Rattle.deck.specs.declared.PathAnswer.TheVariants.{Found}
-use Rattle.deck.specs.contracts.PathAnswer.{the_type as the-answer}
 use Rattle.deck.specs.declared.Constraint.{Constraint}
-use Rattle.deck.specs.declared.Constraint.TheVariants.{Place, Move}
 use Rattle.meaning.proofs.Lists.{mem_select}
 use Rattle.meaning.specs.Making.{added, add_if, make_with, make_child}
 use Rattle.optimal.specs.Plans.{Fits as AllFit, IsLeast}
@@ -187,12 +182,10 @@ module _ {s mask work bounds : List ℕ} {made latest n : ℕ} {i : Carrier} {c 
         rw (be ∙ finish_read d work n d.limit made fits stored x.below record_room i.0 carrier_in, ← x.bound, task_is) later
 
 -- WHAT THE ANSWER SAYS of the path
-none_found : (d : Sheet) (j : Task) (o : Option (List ℕ)) (r : PathAnswer) → r ≡ path_found d j o → OneOf (1 ∷ 2 ∷ []) (tag_of the-answer r) → o ≡ none
+none_found : (d : Sheet) (j : Task) (o : Option (List ℕ)) (r : PathAnswer) → r ≡ path_found d j o → ((f : ℕ) → r ≡ Found f → ⊥) → o ≡ none
 unfolding path_found
 none_found d j none r e k = refl
-none_found d j (some p) r e k =
-    let z : OneOf (1 ∷ 2 ∷ []) 0 = rw e at k in
-    absurd (⊎_elim (λ q. omega arith) (λ q. omega arith) z)
+none_found d j (some p) r e k = absurd (k (finish_of d j p) e)
 
 one_found : (d : Sheet) (j : Task) (o : Option (List ℕ)) (r : PathAnswer) (f : ℕ) → r ≡ path_found d j o → r ≡ Found f → (p : List ℕ) × (o ≡ some p) × (f ≡ finish_of d j p)
 unfolding path_found
@@ -202,7 +195,7 @@ one_found d j (some p) r f e g = (p, refl, cc)
 -- THE CHILD, once its path is looked for
 module _ {s mask work bounds : List ℕ} {made latest n : ℕ} {i : Carrier} {c : Constraint} (x : Branch s mask work bounds made latest n i c) (after : List ℕ) (front : Front (read s).limit work after) where
   module _ (r : PathAnswer) (e : r ≡ path_found (read s) (child_task (read s) work n c) (child_path (read s) work n c)) where
-    pub no_path_lem : OneOf (1 ∷ 2 ∷ []) (tag_of the-answer r) → child_path (read s) work n c ≡ none
+    pub no_path_lem : ((f : ℕ) → r ≡ Found f → ⊥) → child_path (read s) work n c ≡ none
     no_path_lem k = none_found (read s) (child_task (read s) work n c) (child_path (read s) work n c) r e k
 
     pub a_path : (f : ℕ) → r ≡ Found f → (p : List ℕ) × (child_path (read s) work n c ≡ some p) × (f ≡ finish_of (read s) (child_task (read s) work n c) p)

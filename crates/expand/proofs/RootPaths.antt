@@ -20,7 +20,6 @@ use Rattle.deck.specs.declared.Task.{Task}
 use Rattle.deck.specs.declared.Constraint.{Constraint}
 use Rattle.deck.specs.declared.PathAnswer.{PathAnswer}
 use Rattle.deck.specs.declared.PathAnswer.TheVariants.{Found}
-use Rattle.meaning.specs.Meaning.{◌at◌}
 use Rattle.meaning.proofs.Assignments.{table_at}
 use Rattle.meaning.specs.Making.{added}
 use Rattle.meaning.proofs.LeastPath.{LeastMeant, least_path_meant}

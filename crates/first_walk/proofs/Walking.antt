@@ -1,7 +1,7 @@
 -- When a state can finish: when a way from it does; and the words that a walk writes. Assumes nothing.
 use Prim.Native.Nat.{ℕ, zero, suc, ◌+◌, ◌-◌, ◌≤◌, ◌<◌, zero-le}
 use mathlib.Core.Path.{◌≡◌, refl, sym, ap, ◌∙◌, subst}
-use mathlib.Core.Logic.{◌⊎◌, ⊎_elim}
+use mathlib.Core.Logic.{⊎_elim}
 use mathlib.Core.Bool.{Bool, true, false, cond, ◌&&◌}
 use mathlib.Core.List.{List, ◌∷◌}
 use native.Mathlib.Nat.{eq-or-lt_of_le}
@@ -27,7 +27,7 @@ use Rattle.kernel.proofs.Choice.{lt_or_ge}
 use Rattle.kernel.proofs.OfTask.{first_label_le}
 use Rattle.kernel.proofs.Kernel.{good_back, back_good, follow_trace}
 use Rattle.kernel.proofs.Least.{hind_meets}
-use Rattle.meaning.proofs.Lists.{get_d_same}
+use Rattle.meaning.proofs.Lists.{get_or_same}
 use Rattle.bars.specs.Ways.{place_by, has_by}
 use Rattle.bars.proofs.Leads.{mem_by, first_by, none_by}
 use Rattle.layers.specs.Fill.{Filled}
@@ -140,7 +140,7 @@ module _ (d : Sheet) (i : Carrier) (j : Task) (cs : List Constraint) (end : ℕ)
 
   -- what is remembered
   pub dead_none : Dead d i j cs end (replicate 1024 0)
-  dead_none = record { size = length-replicate {A = ℕ} 1024 0; fails = λ x t u k a b c e. absurd (omega (arith, get_d_same {A = ℕ} 0 1024 x)) }
+  dead_none = record { size = length-replicate {A = ℕ} 1024 0; fails = λ x t u k a b c e. absurd (omega (arith, get_or_same {A = ℕ} 0 1024 x)) }
 
   pub dead_more : (dead after : List ℕ) (x t u k : ℕ) → t ≤ end → u < 1024 → k ≤ all_goals d j → all_goals d j ≤ 8 → x < 1024 → Fails d i j cs end t u k
       → Dead d i j cs end dead → after ≡ set dead x (code_of t u k) → Dead d i j cs end after

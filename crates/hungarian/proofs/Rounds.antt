@@ -198,7 +198,7 @@ module _ (m : ℕ) (w : List ℕ) (r : ℕ) (small : m ≤ 12) (low : r < m) (li
         record {
           low_row = t.0;
           low_column = n.0;
-          from_row_lem = t.1;
+          from_row = t.1;
           to_column = n.1;
           slack = omega (arith, in_price (from' at j) t.1, out_column j n.1, t.2, n.2, way_early (from' at j) t.1, farther);
           least = λ x y lx ly h out.
@@ -289,7 +289,7 @@ module _ (m : ℕ) (w : List ℕ) (r : ℕ) (small : m ≤ 12) (low : r < m) (li
       rows' = in_tree m r task columns'
 
       own_task : task at (carrier at j) ≡ j
-      own_task = M.task_of_lem j next_column.0 l
+      own_task = M.task_of j next_column.0 l
 
       not_root : carrier at j ≢ r
       not_root q = omega (arith, ap (◌at◌ task) q, own_task, next_column.0, M.unmatched r (le_refl r) low)
@@ -448,7 +448,7 @@ nothing_solved m w small = record {
   matches = record {
     feasible = λ i j li lj. rw (at_zeros i (omega arith)) zero-le;
     tight = λ j lj l. absurd (omega (arith, l, at_twelves j (omega arith)));
-    task_of_lem = λ j lj l. absurd (omega (arith, l, at_twelves j (omega arith)));
+    task_of = λ j lj l. absurd (omega (arith, l, at_twelves j (omega arith)));
     carrier_of = λ i li l. absurd (omega (arith, l, at_twelves i (omega arith)));
     unpriced = λ j lj l. at_zeros j (omega arith);
     matched = λ i l. absurd (not-suc-le-zero l);

@@ -35,7 +35,7 @@ best_some ok f (y ∷ l) n h = go (ok y) refl h (λ k. best_some ok f l n k)
         pick (inl k) = (y, here refl, rw e tt, k)
         pick (inr k) = let r = i (omega arith) in (r.0, there r.1, r.2, r.3)
 
-pub best_all : (ok : ℕ → Bool) (f : ℕ → ℕ) {l : List ℕ} {x : ℕ} → Mem x l → T (ok x) → f x ≤ best ok f l
+pub best_all : (ok : ℕ → Bool) (f : ℕ → ℕ) {x : ℕ} {l : List ℕ} → Mem x l → T (ok x) → f x ≤ best ok f l
 best_all ok f {x} (here {x = y} {xs = l} e) t = go (ok y) (rw e at t)
   where
     go : (b : Bool) → T b → f x ≤ cond b (max (f y) (best ok f l)) (best ok f l)
@@ -48,7 +48,7 @@ best_all ok f {x} (there {x = y} {xs = l} m) t = go (ok y) (best_all ok f m t)
     go false u = u
 
 -- the first of a rising list that passes the test passes it, and is no later than any other that does
-pub first_passes : (ok : ℕ → Bool) {l : List ℕ} {x : ℕ} → Mem x l → T (ok x) → T (ok (first_of ok l)) × Mem (first_of ok l) l
+pub first_passes : (ok : ℕ → Bool) {x : ℕ} {l : List ℕ} → Mem x l → T (ok x) → T (ok (first_of ok l)) × Mem (first_of ok l) l
 first_passes ok {x} (here {x = y} {xs = l} e) t = go (ok y) refl (rw e at t)
   where
     go : (b : Bool) → ok y ≡ b → T b → T (ok (cond b y (first_of ok l))) × Mem (cond b y (first_of ok l)) (y ∷ l)

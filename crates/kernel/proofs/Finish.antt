@@ -98,7 +98,7 @@ module _ (w : Parts) where
   rest_goes zero t r = tt
   rest_goes (suc m) t r = (and_left (pass w t w.end w.end) (rest w m (suc t)) r, rest_goes m (suc t) (and_right (pass w t w.end w.end) (rest w m (suc t)) r))
 
-module _ (w : Parts) (L : Laws w) (at-start : Settled w w.start w.fresh) (at-step : (u v k : ℕ) → Settled w v (w.raise u v k)) where
+module _ (w : Parts) (L : Laws w) (at_start : Settled w w.start w.fresh) (at_step : (u v k : ℕ) → Settled w v (w.raise u v k)) where
   -- a walk with all goals visited meets its finish
   walk_meets : (m n t u k : ℕ) (q : List ℕ) → Settled w u k → Goes w t u q → after w u k q ≡ w.whole → finish w.end (u ∷ q) ≡ n → length q ≡ n + m
       → Meets w m n t u k q × ((s : ℕ) → s ≡ t + n → T (rest w m s))
@@ -110,7 +110,7 @@ module _ (w : Parts) (L : Laws w) (at-start : Settled w w.start w.fresh) (at-ste
       ((sym e, sym y ∙ a, x), λ s i. let j : s ≡ t = omega arith in rw j (goes_rest w m t (subst (λ (v : ℕ). Goes w t v (replicate m w.end)) (sym e) (rw x at g))))
   walk_meets m (suc n) t u k [] z g a f l = absurd (omega arith)
   walk_meets m (suc n) t u k (v ∷ q) z g a f l =
-      let r = walk_meets m n (suc t) v (w.raise u v k) q (at-step u v k) g.1 a (finish_suc w.end u (v ∷ q) n f) (omega arith) in
+      let r = walk_meets m n (suc t) v (w.raise u v k) q (at_step u v k) g.1 a (finish_suc w.end u (v ∷ q) n f) (omega arith) in
       ((g.0, r.0), λ s i. r.1 s (omega arith))
 
   meets_walk : (m n t u k : ℕ) (q : List ℕ) → Meets w m n t u k q → (s : ℕ) → s ≡ t + n → T (rest w m s)
@@ -130,7 +130,7 @@ module _ (w : Parts) (L : Laws w) (at-start : Settled w w.start w.fresh) (at-ste
 
   pub served_at : (h : ℕ) (q : List ℕ) → Served w h q → (n m : ℕ) → finish_at w q ≡ n → n + m ≡ h → At w m n q
   served_at h q v n m f e =
-      let r = walk_meets m n 0 w.start w.fresh q at-start v.goes v.visits f (omega (arith, v.long)) in
+      let r = walk_meets m n 0 w.start w.fresh q at_start v.goes v.visits f (omega (arith, v.long)) in
       record { rests = r.1 n (omega arith); stands = v.stands; meets = r.0 }
 
   pub at_served : (h : ℕ) (q : List ℕ) (n m : ℕ) → n + m ≡ h → At w m n q → Served w h q × (finish_at w q ≤ n)

@@ -2,7 +2,7 @@
 -- Assumes nothing.
 use Prim.Native.Nat.{ℕ, zero, suc, ◌+◌, ◌-◌, ◌≤◌, ◌<◌, zero-le}
 use mathlib.Core.Path.{◌≡◌, refl, sym, subst}
-use mathlib.Core.Logic.{◌↔◌, ◌⊎◌, inl, ⊎_elim}
+use mathlib.Core.Logic.{◌↔◌, inl, ⊎_elim}
 use mathlib.Core.Bool.{Bool, true, false, cond, ◌&&◌}
 use mathlib.Core.List.Memᴰ.{head as here}
 use mathlib.Core.List.Memᴰ.{tail as there}
@@ -10,7 +10,7 @@ use mathlib.Core.List.{List, [], ◌∷◌, map, Memᴰ as Mem}
 use mathlib.Core.Option.{Option, none, some}
 use native.Mathlib.Nat.{eq-or-lt_of_le, le_trans}
 use native.Mathlib.Omega.{arith}
-use lib.Dec.{T, eqb, leb, ltb, leb→le, le→leb, ltb→lt, lt→ltb}
+use lib.Dec.{T, eqb, leb, leb→le, le→leb, ltb→lt, lt→ltb}
 use borrow.Author.Tests.{leb-true, leb-false}
 use Rattle.deck.specs.Lists.{greatest}
 use Rattle.deck.specs.Sheet.{Sheet, area, free, start_of, goals_of, last_goal}
@@ -40,7 +40,7 @@ use Rattle.kernel.proofs.OfSheet.{InTime, LetsPlace, LetsMove, stands_meant, fre
 use Rattle.kernel.proofs.Kernel.{fore_front, hind_back, follow_trace, rest_iff}
 
 -- the greatest of numbers
-pub greatest_all : {l : List ℕ} {x : ℕ} → Mem x l → x ≤ greatest l
+pub greatest_all : {x : ℕ} {l : List ℕ} → Mem x l → x ≤ greatest l
 greatest_all {x} (here {x = y} {xs = l} e) = go (leb (greatest l) y) refl
   where
     go : (b : Bool) → leb (greatest l) y ≡ b → x ≤ cond b y (greatest l)

@@ -10,7 +10,7 @@ use mathlib.Core.List.Memᴰ.{tail as there}
 use mathlib.Core.List.{List, [], ◌∷◌, Memᴰ as Mem}
 use native.Mathlib.Nat.{mod-lt, div-add-mod', suc-mul, zero-mul, mul_comm, mul-le-mul_right, div-lt_iff_lt-mul, add-div_right, add-mod_right, mul-add-div_right, mul-add-mod_self_right, mod-eq_of_lt, div-eq_of_lt}
 use native.Mathlib.Omega.{arith}
-use lib.Dec.{T, leb, ltb, leb→le, le→leb, ltb→lt, lt→ltb}
+use lib.Dec.{T, leb→le, le→leb, ltb→lt, lt→ltb}
 use Rattle.deck.specs.Sheet.{Sheet, area}
 use Rattle.meaning.specs.Meaning.{OneApart, NextTo}
 use Rattle.meaning.specs.Sorted.{Sorted}

@@ -197,6 +197,7 @@ module _ (d : Sheet) (i : Carrier) (cs : List Constraint) (t : ℕ) (back : Bool
 
       with_place : (b : Bool) (m n : ℕ) → T b → m ≡ cond b n 0 → m ≡ n
       with_place true m n t e = e
+      with_place false m n t e = absurd t
 
       go : (b : Bool) → Gate (cond b (leaves d v x) (leaves d u (way_back x)) && free d v)
           (cond (opens_by (get_or mask (move_by (d.width + 2) pad (cond b 2 x)) 0) (cond b x (way_back x))) (get_or mask pad 0) 0)

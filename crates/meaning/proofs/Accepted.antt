@@ -9,7 +9,7 @@ use mathlib.Core.List.{List, [], ◌∷◌, map}
 use native.Mathlib.Nat.{eq-or-lt_of_le}
 use native.Mathlib.Omega.{arith}
 use lib.Dec.{T, leb, ltb, eqb, leb→le, ltb→lt, eqb→eq}
-use lib.ListN.{length, get_or, length-take, length-drop, length-map, get_or-map}
+use lib.ListN.{length, length-take, length-drop, length-map, get_or-map}
 use Rattle.deck.specs.Lists.{below, within, all, distinct, last}
 use Rattle.deck.specs.Sheet.{Stretch, area, grid_byte, carrier, task, start_of, last_goal, byte_at, width_of, height_of, count_of, horizon_of, limit_of, part, pair_at, pairs_for, starts_pair, directory_end, grid_stretch, starts_stretch, task_stretch, words, read, free, chained, goals_size, unless, ◌or_else◌, good_header, good_directory, good_grid, good_starts, good_goals, good_last_goals, cause, sheet_cause}
 use Rattle.deck.specs.Calls.{workspace_of, workspace_cause, plan_words, search_cause}

@@ -26,7 +26,7 @@ use Rattle.deck.specs.Assignments.{barred, arrangements, assignments, entry_at, 
 use Rattle.meaning.specs.Meaning.{◌at◌, Assignment, Unbarred, StrictlyBefore, Less, AllBarred}
 use Rattle.meaning.proofs.Tests.{Says, says_eqb, says_not, says_iff}
 use Rattle.meaning.specs.Sorted.{Sorted}
-use Rattle.meaning.proofs.Lists.{mem_map, map_mem, mem_each, each_mem, mem_select, select_mem, mem_below, get_d_count_from, length_count_from, get_d_tabulate, sorted_select, sorted_map, sorted_count_from, sorted_each, each_at, Head, head_first}
+use Rattle.meaning.proofs.Lists.{mem_map, map_mem, mem_each, each_mem, mem_select, select_mem, mem_below, get_or_count_from, length_count_from, get_or_tabulate, sorted_select, sorted_map, sorted_count_from, sorted_each, each_at, Head, head_first}
 use Rattle.meaning.proofs.ListTests.{at_mem, says_all_at}
 use Rattle.meaning.proofs.InOrder.{sorted_once, in_order_mem, in_order_sorted}
 
@@ -174,7 +174,7 @@ entries_meant m table a e = ext_get_or 0 (entries m table a) (map used (below m)
     at_index i h =
         let k : i < length a = omega (arith, entries_length m table a) in
         let z : i ≡ 0 + i = omega arith in
-        entries_at m table a i k ∙ ap used z ∙ sym (get_d_tabulate used 0 m i 0 (omega arith))
+        entries_at m table a i k ∙ ap used z ∙ sym (get_or_tabulate used 0 m i 0 (omega arith))
 
 -- the sum of an assignment is that of its entries, carrier by carrier
 pub sum_at : (m : ℕ) (table a : List ℕ) → length a ≡ m → sum_of m table a ≡ sum (map (λ i. entry_at m table i (a at i)) (below m))
@@ -304,4 +304,4 @@ table_at d i j h k = each_at row n long (below n) 0 barred i j (omega (arith, le
     at_row =
         let e : 0 + i ≡ i = omega arith in
         let f : 0 + j ≡ j = omega arith in
-        rw (get_d_count_from 0 n i 0 h, e, get_d_tabulate (cell i) 0 n j barred k, f)
+        rw (get_or_count_from 0 n i 0 h, e, get_or_tabulate (cell i) 0 n j barred k, f)

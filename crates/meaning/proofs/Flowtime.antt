@@ -11,7 +11,7 @@ use Rattle.deck.specs.Paths.{finish_of}
 use Rattle.deck.specs.Search.{flowtime}
 use Rattle.deck.specs.Planner.{problem}
 use Rattle.meaning.specs.Meaning.{◌at◌, path_of, Plan}
-use Rattle.meaning.proofs.Lists.{length_below, get_d_below}
+use Rattle.meaning.proofs.Lists.{length_below, get_or_below}
 use Rattle.meaning.proofs.Paths.{path_finish}
 
 module _ (d : Sheet) (a : List ℕ) (ps : List (List ℕ)) where
@@ -23,7 +23,7 @@ module _ (d : Sheet) (a : List ℕ) (ps : List (List ℕ)) where
   finishes = map finish_at (below d.count)
 
   pub finishes_at : (i : ℕ) → i < d.count → finishes at i ≡ finish_at i
-  finishes_at i h = get_d_below d.count finish_at i 0 h
+  finishes_at i h = get_or_below d.count finish_at i 0 h
 
   pub flowtime_sum : flowtime (problem d) a ps ≡ sum finishes
   unfolding problem

@@ -24,7 +24,7 @@ module _ {A : Type 0} (d : A) where
   mem_at (x ∷ l) (suc k) h = there (mem_at l k (omega arith))
 
   -- what stands in the list stands at an index
-  pub at_mem : {l : List A} {x : A} → Mem x l → (k : ℕ) × (k < length l) × (get_or l k d ≡ x)
+  pub at_mem : {x : A} {l : List A} → Mem x l → (k : ℕ) × (k < length l) × (get_or l k d ≡ x)
   at_mem (here e) = (0, omega arith, sym e)
   at_mem (there m) = let r = at_mem m in (suc r.0, omega (arith, r.1), r.2)
 

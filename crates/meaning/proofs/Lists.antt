@@ -27,7 +27,7 @@ module _ {A B : Type 0} where
   mem_map f (x ∷ xs) (here e) = (x, here refl, e)
   mem_map f (x ∷ xs) (there m) = let r = mem_map f xs m in (r.0, there r.1, r.2)
 
-  pub map_mem : (f : A → B) {l : List A} {x : A} → Mem x l → Mem (f x) (map f l)
+  pub map_mem : (f : A → B) {x : A} {l : List A} → Mem x l → Mem (f x) (map f l)
   map_mem f (here e) = here (ap f e)
   map_mem f (there m) = there (map_mem f m)
 
@@ -39,7 +39,7 @@ module _ {A B : Type 0} where
       split (inl h) go = (x, here refl, h)
       split (inr h) go = let r = go h in (r.0, there r.1, r.2)
 
-  pub each_mem : (f : A → List B) {l : List A} {x : A} {y : B} → Mem x l → Mem y (f x) → Mem y (each f l)
+  pub each_mem : (f : A → List B) {x : A} {y : B} {l : List A} → Mem x l → Mem y (f x) → Mem y (each f l)
   each_mem f {y} (here {x = z} {xs} e) h = in_left (each f xs) (subst (λ (v : A). Mem y (f v)) e h)
   each_mem f (there {x = z} m) h = in_right (f z) (each_mem f m h)
 
@@ -58,7 +58,7 @@ module _ {A : Type 0} (f : A → Bool) where
       go true e (there k) ih = let r = ih k in (there r.0, r.1)
       go false e k ih = let r = ih k in (there r.0, r.1)
 
-  pub select_mem : {l : List A} {x : A} → Mem x l → T (f x) → Mem x (select f l)
+  pub select_mem : {x : A} {l : List A} → Mem x l → T (f x) → Mem x (select f l)
   select_mem {x} (here {x = y} {xs = ys} h) t = go (f y) (rw h at t)
     where
       go : (b : Bool) → T b → Mem x (cond b (y ∷ select f ys) (select f ys))
@@ -91,27 +91,27 @@ pub mem_below : (n : ℕ) {x : ℕ} → Mem x (below n) ↔ (x < n)
 mem_below n {x} = (λ m. omega (arith, (mem_count_from 0 n m).1), λ h. count_from_mem 0 n x (omega arith) (omega arith))
 
 -- the elements of count_from, by index
-pub get_d_count_from : (k n i d : ℕ) → i < n → get_or (count_from k n) i d ≡ k + i
-get_d_count_from k zero i d h = absurd (not-suc-le-zero h)
-get_d_count_from k (suc n) zero d h = omega arith
-get_d_count_from k (suc n) (suc i) d h = let e = get_d_count_from (suc k) n i d (omega arith) in omega arith
+pub get_or_count_from : (k n i d : ℕ) → i < n → get_or (count_from k n) i d ≡ k + i
+get_or_count_from k zero i d h = absurd (not-suc-le-zero h)
+get_or_count_from k (suc n) zero d h = omega arith
+get_or_count_from k (suc n) (suc i) d h = let e = get_or_count_from (suc k) n i d (omega arith) in omega arith
 
 pub length_count_from : (k n : ℕ) → length (count_from k n) ≡ n
 length_count_from k zero = refl
 length_count_from k (suc n) = ap suc (length_count_from (suc k) n)
 
 -- f at each number below n, by index
-pub get_d_tabulate : {A : Type 0} (f : ℕ → A) (k n i : ℕ) (d : A) → i < n → get_or (map f (count_from k n)) i d ≡ f (k + i)
-get_d_tabulate f k zero i d h = absurd (not-suc-le-zero h)
-get_d_tabulate f k (suc n) zero d h = let e : k ≡ k + 0 = omega arith in ap f e
-get_d_tabulate f k (suc n) (suc i) d h = let e : suc k + i ≡ k + suc i = omega arith in rw (get_d_tabulate f (suc k) n i d (omega arith)) (ap f e)
+pub get_or_tabulate : {A : Type 0} (f : ℕ → A) (k n i : ℕ) (d : A) → i < n → get_or (map f (count_from k n)) i d ≡ f (k + i)
+get_or_tabulate f k zero i d h = absurd (not-suc-le-zero h)
+get_or_tabulate f k (suc n) zero d h = let e : k ≡ k + 0 = omega arith in ap f e
+get_or_tabulate f k (suc n) (suc i) d h = let e : suc k + i ≡ k + suc i = omega arith in rw (get_or_tabulate f (suc k) n i d (omega arith)) (ap f e)
 
 -- f at each number below n
 pub length_below : {A : Type 0} (n : ℕ) (f : ℕ → A) → length (map f (below n)) ≡ n
 length_below n f = length-map (below n) f ∙ length_count_from 0 n
 
-pub get_d_below : {A : Type 0} (n : ℕ) (f : ℕ → A) (i : ℕ) (d : A) → i < n → get_or (map f (below n)) i d ≡ f i
-get_d_below n f i d h = let e : 0 + i ≡ i = omega arith in get_d_tabulate f 0 n i d h ∙ ap f e
+pub get_or_below : {A : Type 0} (n : ℕ) (f : ℕ → A) (i : ℕ) (d : A) → i < n → get_or (map f (below n)) i d ≡ f i
+get_or_below n f i d h = let e : 0 + i ≡ i = omega arith in get_or_tabulate f 0 n i d h ∙ ap f e
 
 -- the rows f x, all of length w, one after the other: the element j of row i
 pub each_at : {A B : Type 0} (f : A → List B) (w : ℕ) → ((x : A) → length (f x) ≡ w) → (l : List A) (c : A) (d : B)
@@ -143,10 +143,10 @@ each_take f (x ∷ l) zero d h = append-nil (f x)
 each_take f (x ∷ l) (suc t) d h = ap (λ k. f x ++ k) (each_take f l t d (omega arith)) ∙ sym (append_assoc (f x) (each f (take t l)) (f (get_or l t d)))
 
 -- one element again and again, read at any index
-pub get_d_same : {A : Type 0} (z : A) (n k : ℕ) → get_or (replicate n z) k z ≡ z
-get_d_same z zero k = refl
-get_d_same z (suc n) zero = refl
-get_d_same z (suc n) (suc k) = get_d_same z n k
+pub get_or_same : {A : Type 0} (z : A) (n k : ℕ) → get_or (replicate n z) k z ≡ z
+get_or_same z zero k = refl
+get_or_same z (suc n) zero = refl
+get_or_same z (suc n) (suc k) = get_or_same z n k
 
 module _ {A : Type 0} (R : A → A → Type 0) where
   pub sorted_append : (l r : List A) → Sorted R l → Sorted R r → ((x y : A) → Mem x l → Mem y r → R x y) → Sorted R (l ++ r)

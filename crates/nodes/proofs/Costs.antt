@@ -10,7 +10,7 @@ use Rattle.deck.specs.Lists.{below, sum}
 use Rattle.deck.specs.Sheet.{Sheet, task}
 use Rattle.deck.specs.Paths.{finish_of}
 use Rattle.deck.specs.Planner.{problem}
-use Rattle.meaning.proofs.Lists.{get_d_tabulate}
+use Rattle.meaning.proofs.Lists.{get_or_tabulate}
 use Rattle.meaning.proofs.Finish.{finish_most}
 use Rattle.pack.proofs.Trips.{length_unpack}
 use Rattle.records.specs.Record.{tasks_in, finishes_in, packed_in}
@@ -24,7 +24,7 @@ module _ (d : Sheet) (fs : List (List ℕ)) where
   finish_in i = finish_of d (task (get_or (tasks_in fs) i 0)) (stored_path d fs i)
 
   pub path_at_lem : (i : ℕ) → i < d.count → get_or (stored_paths d fs) i [] ≡ stored_path d fs i
-  path_at_lem i h = get_d_tabulate (stored_path d fs) 0 d.count i [] h ∙ ap (stored_path d fs) (zero-add i)
+  path_at_lem i h = get_or_tabulate (stored_path d fs) 0 d.count i [] h ∙ ap (stored_path d fs) (zero-add i)
 
   pub cost_is : cost_of d fs ≡ sum (map finish_in (below d.count))
   unfolding cost_of problem

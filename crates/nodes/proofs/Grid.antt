@@ -14,7 +14,7 @@ use lib.Dec.{ltb}
 use borrow.Author.Tests.{ltb-true, ltb-false}
 use Rattle.deck.specs.Lists.{all, select, take_least}
 use Rattle.deck.specs.Sheet.{Sheet, area, start_of, carrier}
-use Rattle.deck.specs.Paths.{walks, steps, finish_of, serves, keeps, paths_under, taken, least_path}
+use Rattle.deck.specs.Paths.{walks, finish_of, serves, keeps, paths_under, taken, least_path}
 use Rattle.deck.specs.declared.Carrier.{Carrier}
 use Rattle.deck.specs.declared.Task.{Task}
 use Rattle.deck.specs.declared.Constraint.{Constraint}

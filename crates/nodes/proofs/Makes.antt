@@ -19,7 +19,6 @@ use Rattle.deck.specs.Search.{flowtime, root_paths, root_of, child_node}
 use Rattle.deck.specs.Planner.{problem, bound_by}
 use Rattle.deck.specs.Calls.{task_list}
 use Rattle.deck.specs.declared.Constraint.{Constraint}
-use Rattle.deck.specs.declared.Constraint.TheVariants.{Place, Move}
 use Rattle.pack.specs.Pack.{pack_of}
 use Rattle.pack.proofs.Trips.{length_pack}
 use Rattle.records.specs.Record.{fields, fields_at, link_in, root_in, own_in, tasks_in, finishes_in, words_of, Small, with_path, child_fields, with_key, Wrote}

@@ -27,7 +27,7 @@ use Rattle.deck.specs.declared.Collision.TheVariants.{Place as PlaceCollision, M
 use Rattle.meaning.specs.Meaning.{◌at◌, Step, Path, Keeps, path_of, Collides, FirstCollision, Assignment, Less}
 use Rattle.meaning.specs.Sorted.{Sorted}
 use Rattle.meaning.proofs.Constraints.{bound_below}
-use Rattle.meaning.proofs.Lists.{mem_below, sum_same, get_d_below}
+use Rattle.meaning.proofs.Lists.{mem_below, sum_same, get_or_below}
 use Rattle.meaning.proofs.LeastPath.{LeastMeant, least_path_meant}
 use Rattle.meaning.proofs.Collisions.{FirstMeant, first_collision_meant, no_first_collides}
 use Rattle.meaning.proofs.Assignments.{in_order_meant, in_order_rising, table_at, sum_at}
@@ -103,7 +103,7 @@ module _ (d : Sheet) where
       sum_same _ _ (below d.count)
       (λ i n.
       let h : i < d.count = (mem_below d.count).0 n in
-      ap (finish_of d (task (a at i))) (get_d_below d.count (λ k. path_or (problem d) (least_path d (carrier k) (task (a at k)) [])) i [] h)
+      ap (finish_of d (task (a at i))) (get_or_below d.count (λ k. path_or (problem d) (least_path d (carrier k) (task (a at k)) [])) i [] h)
       ∙ entry_finish i (a at i) h (ok.tasks i h) (open-entries i h))
       ∙ sym (sum_at d.count (table_of d) a ok.as_many)
 

@@ -15,7 +15,7 @@ use native.Mathlib.Nat.{le_refl}
 use native.Mathlib.Decide.{ℕ_discrete}
 use lib.ListN.{set, length-set}
 use Rattle.deck.specs.Search.{Problem, Node, task_of, path_at, flowtime, path_or, root_of, child_with, child_node, child}
-use Rattle.meaning.proofs.Lists.{length_below, get_d_below}
+use Rattle.meaning.proofs.Lists.{length_below, get_or_below}
 use Rattle.optimal.specs.Plans.{Rules, Legals, IsPlan, Fits, KeepsAll, KeepsOwn, Under, IsLeast, Served, Laws}
 use Rattle.optimal.specs.Nodes.{IsNode, Covers}
 use Rattle.optimal.proofs.Sums.{sum_le, set_all}
@@ -53,7 +53,7 @@ module _ {Path Constraint : Type 0} (w : Problem Path Constraint) (r : Rules Pat
     fits = no_fits w r;
     a_path_each = length_below w.count _;
     least = λ i h.
-        rw (get_d_below w.count (λ k. path_or w (w.least k (task_of w a k) [])) i w.no_path h)
+        rw (get_or_below w.count (λ k. path_or w (w.least k (task_of w a k) [])) i w.no_path h)
         (root_least w r i (task_of w a i) (serve i h).0 (serve i h).1 (w.least i (task_of w a i) [])
         (L.least i (task_of w a i) [] h (no_fits w r)));
     cost_is = refl;

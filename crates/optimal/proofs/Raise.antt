@@ -86,7 +86,7 @@ module _ {Path Constraint : Type 0} (w : Problem Path Constraint) (r : Rules Pat
         by_choice none h again = tt
         by_choice (some k) ch again = by_collision k ch (w.collision k.node.paths) (split limit s t v k ch) again
 
-  module _ (limit larger : ℕ) (more_Room : limit ≤ larger) where
+  module _ (limit larger : ℕ) (more_room : limit ≤ larger) where
     wider : (s : State Path Constraint) (t : ℕ) → Invariant w r limit s t → Invariant w r larger s t
     wider s t v = record {
       nodes = v.nodes;
@@ -95,7 +95,7 @@ module _ {Path Constraint : Type 0} (w : Problem Path Constraint) (r : Rules Pat
       cover = v.cover;
       lead = v.lead;
       counted = v.counted;
-      within = le_trans v.within more_Room;
+      within = le_trans v.within more_room;
     }
 
     raise_run : (f g t : ℕ) (s : State Path Constraint) → Invariant w r limit s t → limit < f + t → larger < g + t

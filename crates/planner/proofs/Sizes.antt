@@ -29,7 +29,7 @@ use Rattle.deck.specs.declared.SearchKind.TheVariants.{Plan, NoPlan, Spent, Refu
 use Rattle.deck.specs.declared.CheckAnswer.{CheckAnswer}
 use Rattle.deck.specs.declared.CheckAnswer.TheVariants.{Yes, No, Refused as CheckRefused}
 use Rattle.meaning.specs.Meaning.{◌at◌}
-use Rattle.meaning.proofs.Lists.{length_below, get_d_below}
+use Rattle.meaning.proofs.Lists.{length_below, get_or_below}
 use Rattle.meaning.proofs.LeastPath.{LeastMeant, least_path_meant}
 use Rattle.meaning.proofs.Accepted.{accepted, header_says, search_accepted, accepted_count, accepted_limit, accepted_horizon, accepted_start}
 use Rattle.meaning.proofs.Dark.{most_carriers, short_horizon, with_carriers, round_has}
@@ -212,7 +212,7 @@ module _ (s : List ℕ) (ok : cause s ≡ 0) where
       finish : (i : ℕ) → i < length (map finish_at_lem (below d.count)) → map finish_at_lem (below d.count) at i ≤ 65535
       finish i h =
           let l : i < d.count = omega (arith, length_below d.count finish_at_lem) in
-          omega (arith, get_d_below d.count finish_at_lem i 0 l, (o.least i l).0.0.finishes.rests.0, accepted_horizon s ok)
+          omega (arith, get_or_below d.count finish_at_lem i 0 l, (o.least i l).0.0.finishes.rests.0, accepted_horizon s ok)
 
   module _ (st : State (List ℕ) Constraint) (t : ℕ) (v : Kept st t) where
     made_small : st.made < word

@@ -13,7 +13,7 @@ use lib.Dec.{ltb}
 use borrow.Author.Tests.{ltb-true, ltb-false}
 use Rattle.deck.specs.Lists.{below}
 use Rattle.meaning.specs.Meaning.{◌at◌, Assignment}
-use Rattle.meaning.proofs.Lists.{get_d_tabulate, length_count_from}
+use Rattle.meaning.proofs.Lists.{get_or_tabulate, length_count_from}
 use Rattle.meaning.proofs.Assignments.{each_assigned}
 use Rattle.prices.specs.Matching.{Tight, AtMost, Bounded, Put, Raised, LeastSlack, Matches, Reached, Tree, Turning}
 
@@ -37,7 +37,7 @@ pub same_prices : (m : ℕ) (c : ℕ → ℕ → ℕ) (r : ℕ) (u v task carrie
 same_prices m c r u v task carrier u' v' M h = record {
   feasible = λ i j li lj. omega (arith, M.feasible i j li lj, (h i li).0, (h j lj).1);
   tight = λ j lj l. omega (arith, M.tight j lj l, (h (carrier j) l).0, (h j lj).1);
-  task_of_lem = M.task_of_lem;
+  task_of = M.task_of;
   carrier_of = M.carrier_of;
   unpriced = λ j lj l. omega (arith, M.unpriced j lj l, (h j lj).1);
   matched = M.matched;
@@ -85,17 +85,17 @@ module _ (m : ℕ) (c : ℕ → ℕ → ℕ) (r : ℕ) (u v task carrier : ℕ �
       too_many : ((k : ℕ) → k < m → carrier k < m) → ⊥
       too_many full =
           let c = each_assigned m (map carrier (below m)) all_rows r lr in
-          omega (arith, M.unmatched r (le_refl r) lr, M.task_of_lem c.0 c.1 (full c.0 c.1), ap task (sym (there_at c.0 c.1) ∙ c.2))
+          omega (arith, M.unmatched r (le_refl r) lr, M.task_of c.0 c.1 (full c.0 c.1), ap task (sym (there_at c.0 c.1) ∙ c.2))
         where
           there_at : (k : ℕ) → k < m → map carrier (below m) at k ≡ carrier k
-          there_at k lk = let z : 0 + k ≡ k = omega arith in get_d_tabulate carrier 0 m k 0 lk ∙ ap carrier z
+          there_at k lk = let z : 0 + k ≡ k = omega arith in get_or_tabulate carrier 0 m k 0 lk ∙ ap carrier z
 
           all_rows : Assignment m (map carrier (below m))
           all_rows = record {
             as_many = length-map (below m) carrier ∙ length_count_from 0 m;
             tasks = λ k lk. rw (there_at k lk) (full k lk);
             once = λ k n lk ln e.
-                sym (M.task_of_lem k lk (full k lk)) ∙ ap task (sym (there_at k lk) ∙ e ∙ there_at n ln) ∙ M.task_of_lem n ln (full n ln);
+                sym (M.task_of k lk (full k lk)) ∙ ap task (sym (there_at k lk) ∙ e ∙ there_at n ln) ∙ M.task_of n ln (full n ln);
           }
 
   -- its price is 0, which bounds all prices by the greatest entry
@@ -119,8 +119,8 @@ module _ (m : ℕ) (c : ℕ → ℕ → ℕ) (r : ℕ) (u v task carrier : ℕ �
     carrier_outside k lk l out = ⊎_elim (λ e. absurd (inside (G.row (carrier k) l e))) (λ e. e) (marked_or_not (rows (carrier k)))
       where
         inside : (carrier k ≡ r) ⊎ ((task (carrier k) < m) × (columns (task (carrier k)) ≡ true)) → ⊥
-        inside (inl e) = omega (arith, M.unmatched r (le_refl r) lr, M.task_of_lem k lk l, ap task e)
-        inside (inr (t, e)) = clash (rw (M.task_of_lem k lk l) at e) out
+        inside (inl e) = omega (arith, M.unmatched r (le_refl r) lr, M.task_of k lk l, ap task e)
+        inside (inr (t, e)) = clash (rw (M.task_of k lk l) at e) out
 
     module _ (i j d : ℕ) (L : LeastSlack m c u v rows columns i j d) where
       -- the raised prices fit where the entries fit
@@ -148,7 +148,7 @@ module _ (m : ℕ) (c : ℕ → ℕ → ℕ) (r : ℕ) (u v task carrier : ℕ �
           tight = λ k lk l. ⊎_elim
               (λ e. let t = G.column k lk e in inside_tight (carrier k) k l lk t.1 e (M.tight k lk l))
               (λ e. outside_tight (carrier k) k l lk (carrier_outside k lk l e) e (M.tight k lk l)) (marked_or_not (columns k));
-          task_of_lem = M.task_of_lem;
+          task_of = M.task_of;
           carrier_of = M.carrier_of;
           unpriced = λ k lk l. omega (arith, W.others k lk (free_outside k lk l), M.unpriced k lk l);
           matched = M.matched;
@@ -226,7 +226,7 @@ module _ (m : ℕ) (c : ℕ → ℕ → ℕ) (r : ℕ) (u v task carrier : ℕ �
               where
                 row : (x : ℕ) → x < m → rows' x ≡ true → Dec (x ≡ carrier j) → (x ≡ r) ⊎ ((task x < m) × (columns' (task x) ≡ true))
                 row x lx e (yes q) =
-                    let t : task x ≡ j = ap task q ∙ M.task_of_lem j L.low_column l in
+                    let t : task x ≡ j = ap task q ∙ M.task_of j L.low_column l in
                     inr (rw t L.low_column, rw t B.same)
                 row x lx e (no q) = ⊎_elim (λ z. inl z) (λ z. inr (z.0, more_columns (task x) z.1)) (G.row x lx (sym (old_row x lx q) ∙ e))
 
@@ -261,7 +261,7 @@ module _ (m : ℕ) (c : ℕ → ℕ → ℕ) (r : ℕ) (u v task carrier : ℕ �
             low = L.low_column;
             reached = new_reached rows L.from_row;
             tight = λ k lk q lc. N.tight k lk lc;
-            task_of_lem = λ k lk q lc. M.task_of_lem k lk lc;
+            task_of = λ k lk q lc. M.task_of k lk lc;
             carrier_of = λ x lx lt. (M.carrier_of x lx lt, λ e. omega (arith, M.carrier_of x lx lt, ap carrier e));
             unpriced = λ k lk q lc. N.unpriced k lk lc;
             matched = M.matched;
@@ -286,14 +286,14 @@ module _ (m : ℕ) (c : ℕ → ℕ → ℕ) (r : ℕ) (u v task carrier : ℕ �
             let o : order k < order j = H.reached.earlier l in
             let back : carrier₁ k ≡ from j = H.ahead k l e o ∙ M.carrier_of (from j) H.reached.low l in
             let ne : k ≢ j = λ q. absurd (omega (arith, o, ap order q)) in
-            (sym (ap task₁ back) ∙ H.task_of_lem k l ne (rw back H.reached.low), l, e, o)
+            (sym (ap task₁ back) ∙ H.task_of k l ne (rw back H.reached.low), l, e, o)
 
     module _ (task₂ carrier₂ : ℕ → ℕ) (A : Put task₁ (from j) j task₂) (B : Put carrier₁ j (from j) carrier₂) where
       pub turn_ends : m ≤ task₁ (from j) → Matches m c (suc r) u v task₂ carrier₂
       turn_ends end = record {
         feasible = M.feasible;
         tight = λ k lk l. tight k lk l (ℕ_discrete k j);
-        task_of_lem = λ k lk l. task_of_lem k lk l (ℕ_discrete k j);
+        task_of = λ k lk l. task_of k lk l (ℕ_discrete k j);
         carrier_of = λ x lx l. carrier_of x lx l (ℕ_discrete x (from j));
         unpriced = λ k lk l. unpriced k lk l (ℕ_discrete k j);
         matched = λ x lx. matched x lx (ℕ_discrete x r);
@@ -308,11 +308,11 @@ module _ (m : ℕ) (c : ℕ → ℕ → ℕ) (r : ℕ) (u v task carrier : ℕ �
           tight k lk l (no e) = rw (B.other k e) (H.tight k lk e (rw (B.other k e) at l))
 
           -- another row than from j keeps its task
-          task_of_lem : (k : ℕ) → k < m → carrier₂ k < m → Dec (k ≡ j) → task₂ (carrier₂ k) ≡ k
-          task_of_lem k lk l (yes e) = rw (e, B.same) A.same
-          task_of_lem k lk l (no e) =
+          task_of : (k : ℕ) → k < m → carrier₂ k < m → Dec (k ≡ j) → task₂ (carrier₂ k) ≡ k
+          task_of k lk l (yes e) = rw (e, B.same) A.same
+          task_of k lk l (no e) =
               let l' : carrier₁ k < m = rw (B.other k e) at l in
-              let t = H.task_of_lem k lk e l' in
+              let t = H.task_of k lk e l' in
               rw (B.other k e, A.other (carrier₁ k) (λ q. absurd (omega (arith, end, t, ap task₁ q)))) t
 
           carrier_of : (x : ℕ) → x < m → task₂ x < m → Dec (x ≡ from j) → carrier₂ (task₂ x) ≡ x
@@ -336,7 +336,7 @@ module _ (m : ℕ) (c : ℕ → ℕ → ℕ) (r : ℕ) (u v task carrier : ℕ �
           low = more;
           reached = subst (Reached m c u v task rows from order) (sym same) (G.reached (task (from j)) low_next in_columns);
           tight = λ x lx q l. tight x lx l (ℕ_discrete x j);
-          task_of_lem = λ x lx q l. task_of_lem x lx q l (ℕ_discrete x j);
+          task_of = λ x lx q l. task_of x lx q l (ℕ_discrete x j);
           carrier_of = λ x lx l. carrier_of x lx l (ℕ_discrete x (from j));
           unpriced = λ x lx q l. unpriced x lx l (ℕ_discrete x j);
           matched = λ x lx. matched x lx (ℕ_discrete x (from j));
@@ -372,10 +372,10 @@ module _ (m : ℕ) (c : ℕ → ℕ → ℕ) (r : ℕ) (u v task carrier : ℕ �
           tight x lx l (yes e) = rw (e, B.same) H.reached.over
           tight x lx l (no e) = rw (B.other x e) (H.tight x lx e (rw (B.other x e) at l))
 
-          task_of_lem : (x : ℕ) → x < m → x ≢ task₁ (from j) → carrier₂ x < m → Dec (x ≡ j) → task₂ (carrier₂ x) ≡ x
-          task_of_lem x lx q l (yes e) = rw (e, B.same) A.same
-          task_of_lem x lx q l (no e) =
-              let t = H.task_of_lem x lx e (rw (B.other x e) at l) in
+          task_of : (x : ℕ) → x < m → x ≢ task₁ (from j) → carrier₂ x < m → Dec (x ≡ j) → task₂ (carrier₂ x) ≡ x
+          task_of x lx q l (yes e) = rw (e, B.same) A.same
+          task_of x lx q l (no e) =
+              let t = H.task_of x lx e (rw (B.other x e) at l) in
               rw (B.other x e, A.other (carrier₁ x) (λ z. q (sym t ∙ ap task₁ z))) t
 
           carrier_of : (x : ℕ) → x < m → task₂ x < m → Dec (x ≡ from j) → (carrier₂ (task₂ x) ≡ x) × (task₂ x ≢ task₁ (from j))

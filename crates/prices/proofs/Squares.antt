@@ -11,7 +11,7 @@ use lib.ListN.{length, get_or, length-map, length-append}
 use lib.Seq.{ext_get_or}
 use Rattle.deck.specs.Lists.{below, each}
 use Rattle.deck.specs.Assignments.{barred, entry_at}
-use Rattle.meaning.proofs.Lists.{mem_below, get_d_count_from, length_count_from, get_d_tabulate, each_at}
+use Rattle.meaning.proofs.Lists.{mem_below, get_or_count_from, length_count_from, get_or_tabulate, each_at}
 use Rattle.prices.specs.Square.{square}
 use Rattle.prices.proofs.Growth.{lower}
 
@@ -22,7 +22,7 @@ square_at m f i j h k =
     let g : 0 + j ≡ j = omega arith in
     each_at (λ i. map (f i) (below m)) m (λ i. length-map (below m) (f i) ∙ length_count_from 0 m) (below m) 0 barred i j
     (omega (arith, length_count_from 0 m)) k
-    ∙ rw (get_d_count_from 0 m i 0 h, e, get_d_tabulate (f i) 0 m j barred k, g)
+    ∙ rw (get_or_count_from 0 m i 0 h, e, get_or_tabulate (f i) 0 m j barred k, g)
 
 -- tables that agree below m are equal
 pub square_same : (m : ℕ) (f g : ℕ → ℕ → ℕ) → ((i j : ℕ) → i < m → j < m → f i j ≡ g i j) → square m f ≡ square m g

@@ -19,7 +19,7 @@ use Rattle.deck.specs.Lists.{below, count_from, select, sum}
 use Rattle.deck.specs.Assignments.{arrangements, assignments}
 use Rattle.meaning.specs.Meaning.{◌at◌, Assignment}
 use Rattle.meaning.specs.Sorted.{Sorted}
-use Rattle.meaning.proofs.Lists.{mem_map, mem_each, get_d_tabulate, length_count_from, sorted_select, sorted_count_from}
+use Rattle.meaning.proofs.Lists.{mem_map, mem_each, get_or_tabulate, length_count_from, sorted_select, sorted_count_from}
 use Rattle.meaning.proofs.Assignments.{assignment_mem}
 
 module _ (f g : ℕ → ℕ) where
@@ -62,7 +62,7 @@ map_at f a m e = ext_get_or (f 0) (map (λ i. f (a at i)) (below m)) (map f a) l
     same : (i : ℕ) → i < m → get_or (map (λ i. f (a at i)) (below m)) i (f 0) ≡ get_or (map f a) i (f 0)
     same i h =
         let z : 0 + i ≡ i = omega arith in
-        get_d_tabulate (λ i. f (a at i)) 0 m i (f 0) h ∙ ap (λ (k : ℕ). f (a at k)) z ∙ sym (get_or-map f a i 0)
+        get_or_tabulate (λ i. f (a at i)) 0 m i (f 0) h ∙ ap (λ (k : ℕ). f (a at k)) z ∙ sym (get_or-map f a i 0)
 
 abbrev without : ℕ → List ℕ → List ℕ
 without x l = select (λ y. not (eqb x y)) l

@@ -1,7 +1,7 @@
 -- Slots of a record put anew, and the slots of a root filled one after another. Assumes nothing.
 use Prim.Native.Nat.{ℕ, suc, ◌+◌, ◌*◌, ◌-◌, ◌<◌, ◌≤◌}
 use mathlib.Core.Path.{◌≡◌, refl, sym, ap, subst, ◌∙◌}
-use mathlib.Core.Logic.{◌⊎◌, ⊎_elim, ◌≢◌}
+use mathlib.Core.Logic.{⊎_elim, ◌≢◌}
 use mathlib.Core.Bool.{true, false}
 use mathlib.Core.List.{List, [], ◌∷◌}
 use mathlib.Core.Option.{Option, none, some}
@@ -11,7 +11,6 @@ use lib.ListN.{get_or, set, take, length, replicate, length-set, length-append, 
 use lib.Seq.{get_or-set_same, get_or-set_other, set-set, set-get_or, take_all}
 use Rattle.deck.specs.Assignments.{sum_of}
 use Rattle.deck.specs.Calls.{task_list}
-use Rattle.meaning.specs.Meaning.{◌at◌}
 use Rattle.prices.proofs.Growth.{lower}
 use Rattle.partition.specs.Parts.{slot_part, candidate}
 use Rattle.partition.proofs.Candidates.{Candidate as CandidateIs, candidate_meant}

@@ -1,7 +1,7 @@
 -- The choices at a number of the tournament, and what they are read from. Assumes nothing.
 use Prim.Native.Nat.{ℕ, ◌+◌, ◌*◌, ◌-◌, ◌<◌, ◌≤◌}
 use mathlib.Core.Path.{◌≡◌, refl, sym, ap, subst, ◌∙◌}
-use mathlib.Core.Logic.{◌⊎◌, ⊎_elim}
+use mathlib.Core.Logic.{⊎_elim}
 use mathlib.Core.Bool.{Bool, true, false, cond}
 use mathlib.Core.List.{List, [], ◌∷◌}
 use native.Mathlib.Omega.{arith}
@@ -105,14 +105,14 @@ module _ (before after : List ℕ) (latest : ℕ) (order : (k : ℕ) → k < lat
 
 -- MORE NUMBERS, which have no choice; the words of the others are as they were
 module _ (before after : List ℕ) (latest to : ℕ) (more : latest ≤ to) (order : (k : ℕ) → k < latest → SameOrder (fields_at after k) (fields_at before k)) (wins : (k : ℕ) → k < latest → win_at after k ≡ win_at before k) (owns : (k : ℕ) → k < latest → own_at after k ≡ own_at before k)
-    (no-win : (k : ℕ) → latest ≤ k → k < to → win_at after k ≡ Nothing) (no_own : (k : ℕ) → latest ≤ k → k < to → own_at after k ≡ Nothing) (P : Played before latest) where
+    (no_win : (k : ℕ) → latest ≤ k → k < to → win_at after k ≡ Nothing) (no_own : (k : ℕ) → latest ≤ k → k < to → own_at after k ≡ Nothing) (P : Played before latest) where
   win_same : (k : ℕ) → win_below after to k ≡ win_below before latest k
   win_same k = ⊎_elim
       (λ l. below_yes after k to (omega arith) ∙ wins k l ∙ sym (below_yes before k latest l))
       (λ l. past l ∙ sym (below_no before k latest l)) (lower k latest)
     where
       past : latest ≤ k → win_below after to k ≡ Nothing
-      past l = ⊎_elim (λ g. below_yes after k to g ∙ no-win k l g) (λ g. below_no after k to g) (lower k to)
+      past l = ⊎_elim (λ g. below_yes after k to g ∙ no_win k l g) (λ g. below_no after k to g) (lower k to)
 
   none_here : (k : ℕ) → latest ≤ k → k < to → first_here after to k ≡ Nothing
   unfolding first_here
@@ -126,14 +126,14 @@ module _ (before after : List ℕ) (latest to : ℕ) (more : latest ≤ to) (ord
             record {
               wins = λ k g. ⊎_elim
                   (λ l. subst (Below to) (sym (wins k l)) (below_wider latest to (win_at before k) more (P.named.wins k l)))
-                  (λ l. subst (Below to) (sym (no-win k l g)) tt) (lower k latest);
+                  (λ l. subst (Below to) (sym (no_win k l g)) tt) (lower k latest);
               owns = λ k g. ⊎_elim
                   (λ l. subst (Of k) (sym (owns k l)) (P.named.owns k l))
                   (λ l. subst (Of k) (sym (no_own k l g)) tt) (lower k latest);
             };
         first = λ k g. ⊎_elim
             (λ l. wins k l ∙ P.first k l ∙ sym (here_same before after latest order to k P.named l (owns k l) (win_same (2 * k + 1)) (win_same (2 * k + 2))))
-            (λ l. no-win k l g ∙ sym (none_here k l g)) (lower k latest);
+            (λ l. no_win k l g ∙ sym (none_here k l g)) (lower k latest);
       }
 
 -- THE FIRST OF THE SLOTS OF A ROOT is one of its own, and is read from its record alone

@@ -1,17 +1,17 @@
 -- Sheets longer than any accepted one: what follows their first bytes changes neither cause nor listing. Assumes nothing.
 use Prim.Native.Nat.{ℕ, zero, suc, ◌+◌, ◌-◌, ◌*◌, ◌%◌, ◌≤◌, ◌<◌}
-use mathlib.Core.Path.{◌≡◌, refl, sym, ap, subst, ◌∙◌}
+use mathlib.Core.Path.{◌≡◌, refl, ap, subst, ◌∙◌}
 use mathlib.Core.Bool.{Bool, true, false}
 use mathlib.Core.List.{List, ◌++◌}
 use native.Mathlib.Nat.{mul-le-mul}
 use native.Mathlib.Omega.{arith}
-use lib.Dec.{T, eqb, leb}
-use lib.ListN.{length, get_or, length-append, get_or-append}
+use lib.Dec.{T}
+use lib.ListN.{length, length-append, get_or-append}
 use borrow.Author.Tests.{le-leb}
 use Rattle.deck.specs.Lists.{below, all}
-use Rattle.deck.specs.Sheet.{byte_at, count_of, pair_at, grid_pair, starts_pair, task_pair, pairs_for, grid_stretch, starts_stretch, task_stretch, task, read, directory_end, chained, goals_size, good_header, good_directory, unless, ◌or_else◌, cause, sheet_cause}
+use Rattle.deck.specs.Sheet.{byte_at, count_of, pair_at, grid_pair, starts_pair, task_pair, pairs_for, grid_stretch, starts_stretch, task_stretch, task, directory_end, chained, goals_size, good_header, good_directory, unless, ◌or_else◌, cause, sheet_cause}
 use Rattle.deck.specs.Calls.{search_cause, search_answer_for, search_output_for, search_answer, search_output}
-use Rattle.deck.specs.Listing.{decimal, text, listing_for, listing}
+use Rattle.deck.specs.Listing.{listing_for, listing}
 use Rattle.meaning.proofs.Tests.{Says, says_eqb, says_leb, says_and}
 use Rattle.meaning.proofs.ListTests.{says_all_at}
 use Rattle.meaning.proofs.Accepted.{header_says, directory_says}

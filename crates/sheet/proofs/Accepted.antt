@@ -1,7 +1,7 @@
 -- What a sheet without causes gives, beyond the laws of the crate meaning: the ranges of the header, the grid's length, starts and goals
 -- on free places of the grid, how many goals a task has, and the bound on the workspace. Assumes nothing.
 use Prim.Native.Nat.{ℕ, suc, ◌-◌, ◌%◌, ◌≤◌, ◌<◌}
-use mathlib.Core.Path.{◌≡◌, refl, sym, ◌∙◌}
+use mathlib.Core.Path.{◌≡◌, refl, ◌∙◌}
 use mathlib.Core.Bool.{Bool}
 use mathlib.Core.List.{List, [], map}
 use native.Mathlib.Decide.{dec_le}

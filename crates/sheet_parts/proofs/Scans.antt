@@ -12,7 +12,7 @@ use lib.ListN.{length, get_or, drop, drop_of_length-le}
 use lib.Seq.{drop-cons}
 use borrow.Author.Tests.{leb-true, leb-false, eq-eqb, ne_eqb, not-true, not-false}
 use Rattle.deck.specs.Lists.{below, all, has, distinct, greatest}
-use Rattle.meaning.proofs.Lists.{get_d_count_from, length_count_from}
+use Rattle.meaning.proofs.Lists.{get_or_count_from, length_count_from}
 
 -- The laws take what the code has in hand: x is the element k and b what the code's test said of it
 module _ {A : Type 0} (f : A → Bool) (l : List A) (k : ℕ) (d : A) {x : A} {b : Bool} where
@@ -73,7 +73,7 @@ module _ (l : List ℕ) (k : ℕ) where
 
 -- the number at an index of 0, 1, .., n - 1
 pub below_at : (n k : ℕ) → k < n → get_or (below n) k 0 ≡ k
-below_at n k h = get_d_count_from 0 n k 0 h ∙ zero-add k
+below_at n k h = get_or_count_from 0 n k 0 h ∙ zero-add k
 
 pub length_below : (n : ℕ) → length (below n) ≡ n
 length_below n = length_count_from 0 n

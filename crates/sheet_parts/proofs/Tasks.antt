@@ -13,7 +13,7 @@ use Rattle.deck.specs.Lists.{below}
 use Rattle.deck.specs.Sheet.{Stretch, count_of, task, task_pair, task_stretch, part, words, read, goals_of, sheet_cause, unless, ◌or_else◌}
 use Rattle.deck.specs.Calls.{stretch_for, goals_cause, goals_call}
 use Rattle.deck.specs.declared.Task.{Task}
-use Rattle.meaning.proofs.Lists.{get_d_tabulate, length_count_from}
+use Rattle.meaning.proofs.Lists.{get_or_tabulate, length_count_from}
 use Rattle.meaning.proofs.Accepted.{accepted_inside}
 use Rattle.meaning.proofs.Dark.{with_carriers}
 use Rattle.sheet_parts.specs.Part.{task_part}
@@ -34,7 +34,7 @@ module _ (s : List ℕ) (j : Task) where
 
   pub goals_there : j.0 < count_of s → goals_of (read s) j ≡ words (part s (task_stretch s j))
   goals_there h =
-      get_d_tabulate (λ (i : ℕ). words (part s (task_stretch s (task i)))) 0 (count_of s) j.0 [] h ∙ rw (zero-add j.0) refl
+      get_or_tabulate (λ (i : ℕ). words (part s (task_stretch s (task i)))) 0 (count_of s) j.0 [] h ∙ rw (zero-add j.0) refl
 
   pub no_goals : count_of s ≤ j.0 → goals_of (read s) j ≡ []
   no_goals h =

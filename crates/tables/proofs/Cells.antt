@@ -54,13 +54,13 @@ pub square_low : (m : ℕ) → m ≤ 12 → m * m ≤ 144
 square_low m h = omega (arith, mul-le-mul_right m h)
 
 -- what is read past the end does not count
-get_d_any : (l : List ℕ) (k x y : ℕ) → k < length l → get_or l k x ≡ get_or l k y
-get_d_any [] k x y h = absurd (not-suc-le-zero h)
-get_d_any (z ∷ l) zero x y h = refl
-get_d_any (z ∷ l) (suc k) x y h = get_d_any l k x y (le_of_suc-le-suc h)
+get_or_any : (l : List ℕ) (k x y : ℕ) → k < length l → get_or l k x ≡ get_or l k y
+get_or_any [] k x y h = absurd (not-suc-le-zero h)
+get_or_any (z ∷ l) zero x y h = refl
+get_or_any (z ∷ l) (suc k) x y h = get_or_any l k x y (le_of_suc-le-suc h)
 
 pub table_entry : (m : ℕ) (table : List ℕ) (i j d : ℕ) → i < m → j < m → length table ≡ m * m → get_or table (i * m + j) d ≡ entry_at m table i j
-table_entry m table i j d li lj e = get_d_any table (i * m + j) d barred (rw e (index_low m i j li lj))
+table_entry m table i j d li lj e = get_or_any table (i * m + j) d barred (rw e (index_low m i j li lj))
 
 -- the entry x in a part's table, by the cases of the code
 module _ (q : Part) (i j x : ℕ) where

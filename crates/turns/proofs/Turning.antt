@@ -17,7 +17,7 @@ use Rattle.deck.specs.declared.Constraint.{Constraint}
 use Rattle.deck.specs.declared.Collision.{Collision}
 use Rattle.deck.specs.declared.CollisionAnswer.{CollisionAnswer}
 use Rattle.deck.specs.declared.CollisionAnswer.TheVariants.{Found as CollisionFound}
-use Rattle.meaning.proofs.Lists.{length_below, get_d_below}
+use Rattle.meaning.proofs.Lists.{length_below, get_or_below}
 use Rattle.meaning.proofs.Accepted.{accepted_start, accepted_horizon}
 use Rattle.meaning.specs.Making.{make_each}
 use Rattle.meaning.proofs.Limit.{one_at_a_time}
@@ -30,7 +30,7 @@ use Rattle.optimal.proofs.Select.{cheapest_picks}
 use Rattle.optimal.proofs.Written.{pieces_flat}
 use Rattle.pack.proofs.Trips.{length_unpack}
 use Rattle.records.specs.Record.{fields_at, packed_in, closed_key, with_key}
-use Rattle.nodes.specs.Nodes.{path_in, paths_in, node_at, opened_at, Lows, Cheapest}
+use Rattle.nodes.specs.Nodes.{path_in, paths_in, node_at, opened_at, Lows, Cheapest, InRange as Inside}
 use Rattle.meaning.specs.Constraints.{InRange}
 use Rattle.nodes.specs.Stored.{Fits, Stored}
 use Rattle.nodes.specs.declared.Pick.{Pick}
@@ -52,7 +52,7 @@ paths_back w last m starts fs rest =
     subst (λ k. pieces k (suc last) (flat (paths_in w last starts m fs) ++ rest) ≡ paths_in w last starts m fs)
     (length_below m (path_in w last starts fs))
     (pieces_flat (suc last) (paths_in w last starts m fs) rest
-    (λ i h. ap length (get_d_below m (path_in w last starts fs) i [] (omega (arith, length_below m (path_in w last starts fs))))
+    (λ i h. ap length (get_or_below m (path_in w last starts fs) i [] (omega (arith, length_below m (path_in w last starts fs))))
     ∙ length_unpack w last (packed_in fs i) (get_or starts i 0)
     ∙ add-one last))
 
@@ -222,6 +222,16 @@ module _ (s : List ℕ) (ok : cause s ≡ 0) (work : List ℕ) (made latest k : 
   pub pick_is : (limit : ℕ) → limit ≡ (read s).limit → (r x : Pick) → ((d : Sheet) → Fits d → Stored d limit work made → Cheapest d limit work made r) → r ≡ x
       → Cheapest (read s) (read s).limit work made x
   pick_is limit l r x says e = subst (Cheapest (read s) (read s).limit work made) e (subst (λ b. Stored (read s) b work made → Cheapest (read s) b work made r) l (says (read s) (accepted_fits s ok)) turning.0.stored)
+
+  -- and once the node is closed
+  pub closed_is_taken : (limit : ℕ) → limit ≡ (read s).limit → (r : Pick) → ((d : Sheet) → Fits d → Stored d limit work made → Cheapest d limit work made r) → Inside made r
+      → (n cost : ℕ) → r ≡ Open n cost → (closed : List ℕ) → closed ≡ with_key limit n closed_key work → Took s work closed made n cost
+  closed_is_taken limit l r says inside n cost e closed is =
+      record {
+        inside = subst (Inside made) e inside;
+        taken = pick_is limit l r (Open n cost) says e;
+        is = is ∙ ap (λ (b : ℕ). with_key b n closed_key work) l;
+      }
 
   module _ (closed : List ℕ) (n cost : ℕ) (took : Took s work closed made n cost) (room : workspace_for (read s) ≤ length work) where
     pub took_given : (mask t bounds : List ℕ) → Given s mask t work bounds → Given s mask t closed bounds

@@ -1,0 +1,9 @@
+-- `starts_of` meets its contract: the first i starts are written. Assumes nothing.
+use mathlib.Core.Path.{◌≡◌}
+use Prim.Native.Nat.{ℕ, ◌<◌, ◌≤◌}
+use lib.ListN.{length, get_or}
+use Rattle.deck.specs.Sheet.{read}
+use Rattle.planning.proofs.starts_of.Given as goal
+
+abbrev pub invariant-loop-i : goal.invariant-loop-i
+invariant-loop-i l = (l.i ≤ l.m) × (length l.starts ≡ 12) × ((k : ℕ) → k < l.i → get_or l.starts k 0 ≡ get_or (read l.s).starts k 0)

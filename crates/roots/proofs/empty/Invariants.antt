@@ -1,0 +1,9 @@
+-- `empty` meets its contract: the numbers below k have no choice. Assumes nothing.
+use mathlib.Core.Path.{◌≡◌}
+use Prim.Native.Nat.{◌≤◌}
+use lib.ListN.{length}
+use Rattle.roots.specs.Tournament.{Emptied}
+use Rattle.roots.proofs.empty.Given as goal
+
+abbrev pub invariant-loop-k : goal.invariant-loop-k
+invariant-loop-k l = (length l.work ≡ length l.initial.work) × (l.from ≤ l.k) × (l.k ≤ l.to) × Emptied l.initial.work l.work l.from l.k

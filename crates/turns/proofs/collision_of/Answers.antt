@@ -1,0 +1,46 @@
+-- `turns::collision_of` meets its contract: the paths that are written are the node's. Assumes nothing.
+use Prim.Native.Nat.{ℕ, ◌+◌, ◌*◌, ◌≤◌}
+use native.Mathlib.Nat.{mul-le-mul}
+use native.Mathlib.Numerals.{add-one}
+use native.Mathlib.Omega.{arith}
+use Rattle.deck.specs.Sheet.{read}
+use Rattle.sheet.proofs.Accepted.{width_range, count_range, horizon_range}
+use Rattle.turns.proofs.Turning.{node_collision}
+use Rattle.turns.proofs.collision_of.Goals as goal
+
+-- the words of all paths fit the array
+words_fit : (m last : ℕ) → m ≤ 12 → last ≤ 255 → m * (last + 1) ≤ 3072
+words_fit m last a b = let l : last + 1 ≤ 256 = omega arith in omega (arith, mul-le-mul a l)
+
+pub write_paths-requires : goal.write_paths-requires
+write_paths-requires c =
+    let start = c in
+    let ok = start.requires.0 in
+    let s = start.args.s.now in
+    let m = c.count-m.ensures.value in
+    let last = c.horizon-last.ensures.value in (
+      start.requires.2,
+      omega (arith, m, count_range s ok),
+      omega (arith, m, count_range s ok),
+      omega (arith, c.width-w.ensures.value, width_range s ok),
+      omega (arith, last, horizon_range s ok),
+      rw c.write_paths-arg-2-1.given.0.1 (words_fit _ _ (omega (arith, m, count_range s ok)) (omega (arith, last, horizon_range s ok))),
+    )
+
+pub first_among-requires : goal.first_among-requires
+first_among-requires c =
+    let start = c in
+    let ok = start.requires.0 in
+    let s = start.args.s.now in
+    let m : c.count-m.result ≤ 12 = omega (arith, c.count-m.ensures.value, count_range s ok) in
+    let last : c.horizon-last.result ≤ 255 = omega (arith, c.horizon-last.ensures.value, horizon_range s ok) in
+    (rw (c.write_paths.auto.out, c.write_paths-arg-2-1.given.0.1, ← add-one c.horizon-last.result) (words_fit _ _ m last), omega arith)
+
+pub returns : goal.returns
+returns c =
+    let start = c in
+    node_collision (read start.args.s.now) start.args.work.now start.args.n _ _ _ start.args.starts.now
+    c.width-w.ensures.value
+    c.horizon-last.ensures.value
+    c.count-m.ensures.value start.requires.1 _ _ _
+    c.write_paths.ensures c.first_among.ensures
