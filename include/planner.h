@@ -1,4 +1,4 @@
-/* The carrier round planner's calls, for C and C++ on x86-64 Linux. Link libplanner.a, which `rt staticlib planner` makes.
+/* The carrier round planner's calls, for C and C++ on x86-64 Linux. Link libplanner.a, which `./archive` makes.
  *
  * Rules of every call:
  * - A slice is a pointer and then how many elements it has. A pointer is never null, also where the length is 0 (malloc(0) may

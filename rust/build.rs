@@ -1,4 +1,4 @@
-//! Links the planner's archive: from the folder that PLANNER_LIB_DIR names, else from where `rt staticlib planner` makes it.
+//! Links the planner's archive: from the folder that PLANNER_LIB_DIR names, else from where `./archive` makes it.
 
 use std::env;
 use std::path::{Path, PathBuf};
@@ -13,7 +13,7 @@ fn main() {
     let archive = folder.join("libplanner.a");
     println!("cargo:rerun-if-changed={}", archive.display());
     if !archive.is_file() {
-        eprintln!("{} is not there: run `rt staticlib planner`, or set PLANNER_LIB_DIR", archive.display());
+        eprintln!("{} is not there: run `./archive`, or set PLANNER_LIB_DIR", archive.display());
         exit(1);
     }
     println!("cargo:rustc-link-search=native={}", folder.display());
