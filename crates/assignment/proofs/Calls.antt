@@ -3,7 +3,7 @@ use Prim.Native.Nat.{ℕ, zero, suc, ◌-◌, ◌*◌, ◌≤◌, ◌<◌}
 use mathlib.Core.Path.{◌≡◌, refl, sym, ap}
 use mathlib.Core.Logic.{◌≢◌}
 use mathlib.Core.List.{List}
-use mathlib.Core.Option.{Option, none, some}
+use Rattle.std.specs.Prelude.{Option, None, Some}
 use native.Mathlib.Omega.{arith}
 use lib.ListN.{length, replicate, get_or-replicate}
 use lib.Seq.{take_at}
@@ -46,8 +46,8 @@ module _ (m : ℕ) (table : List ℕ) where
   meant = by_cause c refl
     where
       found : c ≡ 0 → (o : Option (List ℕ)) → Least m table o → Meant m table (assignment_kind 0 m table o) (assignment_tasks o)
-      found z none l = (z, l)
-      found z (some a) l = (z, rw (take_at a (replicate (12 - length a) 255) m l.0.0.as_many) (l.0, refl, l.1))
+      found z None l = (z, l)
+      found z (Some a) l = (z, rw (take_at a (replicate (12 - length a) 255) m l.0.0.as_many) (l.0, refl, l.1))
 
       by_cause : (n : ℕ) → n ≡ c → Meant m table (assignment_kind n m table (least_for n m table)) (assignment_tasks (least_for n m table))
       by_cause zero e = found (sym e) (least_assignment m table) (least_assignment_lem m table)
@@ -68,7 +68,7 @@ module _ (m : ℕ) (table : List ℕ) where
   unfolding least_for assignment_kind assignment_tasks
   refused r q e = rw q (ensured (without_tasks (Refused bad_count)) (rw e refl) (rw e refl) (rw e (no_prices, no_prices)))
 
-  pub none_found : (r : AssignmentAnswer) → r ≡ without_tasks NoAssignment → c ≡ 0 → least_assignment m table ≡ none → Ensured r
+  pub none_found : (r : AssignmentAnswer) → r ≡ without_tasks NoAssignment → c ≡ 0 → least_assignment m table ≡ None → Ensured r
   unfolding least_for assignment_kind assignment_tasks
   none_found r q e f = rw q (ensured (without_tasks NoAssignment) (rw (e, f) refl) (rw (e, f) refl) (rw (e, f) (no_prices, no_prices)))
 

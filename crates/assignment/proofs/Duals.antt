@@ -5,7 +5,7 @@ use mathlib.Core.Path.{◌≡◌, refl, sym, ap, subst, ◌∙◌}
 use mathlib.Core.Logic.{◌⊎◌, inl, inr, ⊎_elim, ◌≢◌}
 use mathlib.Core.Bool.{true, false}
 use mathlib.Core.List.{List, map}
-use mathlib.Core.Option.{some}
+use Rattle.std.specs.Prelude.{Some}
 use native.Mathlib.Omega.{arith}
 use lib.ListN.{get_or, take, get_or-append}
 use lib.IntN.{ℤ, pos, neg_ℤ, ◌+ℤ◌, ◌-ℤ◌, -ℤ-+ℤ_cancel}
@@ -44,7 +44,7 @@ module _ (m : ℕ) (small : m ≤ 12) (t w u v task carrier : List ℕ) (W : Wei
   prices_low : (k : ℕ) → k < m → (u at k ≤ heavy) × (v at k ≤ heavy)
   prices_low k lk = S.bounded heavy (λ i j li lj. rw (weight_at_lem i j li lj) (weigh_low (entry_at m table i j) (words i j li lj))) k lk
 
-  module _ (a : List ℕ) (least : least_assignment m table ≡ some a) where
+  module _ (a : List ℕ) (least : least_assignment m table ≡ Some a) where
     open_a : Unbarred m table a
     open_a = (least_assignment_meant m table a least).0
 
@@ -86,7 +86,7 @@ module _ (m : ℕ) (small : m ≤ 12) (t w u v task carrier : List ℕ) (W : Wei
     solved_low k lk = let p = prices_low k lk in (omega arith, omega arith)
 
 -- THE SECOND RUN'S PRICES, as they are handed out
-module _ (m : ℕ) (table prices kept a : List ℕ) (least : least_assignment m table ≡ some a) (P : Serves m table a (by_carrier prices) (by_task prices)) (same : (k : ℕ) → k < m → kept at k ≡ by_task prices at k)
+module _ (m : ℕ) (table prices kept a : List ℕ) (least : least_assignment m table ≡ Some a) (P : Serves m table a (by_carrier prices) (by_task prices)) (same : (k : ℕ) → k < m → kept at k ≡ by_task prices at k)
     (rows columns : List ℤ) (R : Prices m highest (row_of prices) rows) (C : Prices m dearest (column_of false kept) columns) where
   column : (k : ℕ) → k < m → get_or columns k (pos 0) ≡ neg_ℤ (pos (by_task prices at k))
   column k lk = C.each k lk ∙ ap (λ (x : ℕ). neg_ℤ (pos x)) (same k lk)
@@ -105,7 +105,7 @@ module _ (m : ℕ) (table prices kept a : List ℕ) (least : least_assignment m 
   }
 
 -- ROUNDED PRICES that pass the test
-module _ (m : ℕ) (t tasks a : List ℕ) (least : least_assignment m (copied m t) ≡ some a) (own : tasks ≡ task_list a) where
+module _ (m : ℕ) (t tasks a : List ℕ) (least : least_assignment m (copied m t) ≡ Some a) (own : tasks ≡ task_list a) where
   meant : Unbarred m (copied m t) a
   meant = (least_assignment_meant m (copied m t) a least).0
 
@@ -137,7 +137,7 @@ module _ (m : ℕ) (t tasks a : List ℕ) (least : least_assignment m (copied m 
     }
 
 -- THE ANSWER
-module _ (m : ℕ) (table a : List ℕ) (least : least_assignment m table ≡ some a) (rows columns : List ℤ) (H : Handed m table a rows columns) where
+module _ (m : ℕ) (table a : List ℕ) (least : least_assignment m table ≡ Some a) (rows columns : List ℤ) (H : Handed m table a rows columns) where
   open_least : Unbarred m table a
   open_least = (least_assignment_meant m table a least).0
 

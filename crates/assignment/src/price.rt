@@ -2,7 +2,7 @@
 // below. They are tested as they are handed out: row plus column price is at most each entry, a barred one counted at its weight,
 // and equals the chosen ones.
 ghost use Rattle.std.specs.Prelude.{◌≡◌, List, map, true, false, ℕ, ◌≤◌, ◌<◌, get_or, pos, neg_ℤ, ◌+ℤ◌, ◌-ℤ◌, ◌≤ℤ◌};
-ghost use Rattle.std.proofs.Math.Option.{some};
+ghost use Rattle.std.specs.Prelude.{Some};
 ghost use Rattle.std.specs.Int.Signed.{mag};
 ghost use Rattle.deck.specs.Lists.{below, sum};
 ghost use Rattle.deck.specs.Assignments.{least_assignment};
@@ -65,7 +65,7 @@ fn answer(
     rows: [i32; 12],
     columns: [i32; 12],
 ) -> AssignmentAnswer
-    requires { (m ≤ 12) × ((a : List ℕ) × (least_assignment m (copied m t.now) ≡ some a) × (tasks ≡ task_list a) × Handed m (copied m t.now) a rows columns) }
+    requires { (m ≤ 12) × ((a : List ℕ) × (least_assignment m (copied m t.now) ≡ Some a) × (tasks ≡ task_list a) × Handed m (copied m t.now) a rows columns) }
     ensures { Answered m (copied m t.now) result }
 {
     let s = chosen_sum(m, &rows, &columns, &tasks);
@@ -142,7 +142,7 @@ fn row_prices(m: usize, prices: &[u64; 24]) -> [i32; 12]
 
 // The answer with the prices of a second run, on plain weights.
 fn solved(m: usize, t: &[u16; 144], tasks: [u8; 12]) -> AssignmentAnswer
-    requires { (m ≤ 12) × ((a : List ℕ) × (least_assignment m (copied m t.now) ≡ some a) × (tasks ≡ task_list a)) }
+    requires { (m ≤ 12) × ((a : List ℕ) × (least_assignment m (copied m t.now) ≡ Some a) × (tasks ≡ task_list a)) }
     ensures { Answered m (copied m t.now) result }
 {
     let w = weights(m, t, false);
@@ -215,7 +215,7 @@ fn all_serve(m: usize, t: &[u16; 144], rows: &[i32; 12], columns: &[i32; 12]) ->
 // The whole answer, for the tasks of the least assignment. The columns' prices are those by merged weights, rounded, and the rows'
 // are tight on the tasks. They are tested: rounded prices may fail; then a second run on plain weights gives the prices.
 pub fn priced(m: usize, t: &[u16; 144], tasks: [u8; 12], merged: &[u64; 12]) -> AssignmentAnswer
-    requires { (m ≤ 12) × ((a : List ℕ) × (least_assignment m (copied m t.now) ≡ some a) × (tasks ≡ task_list a)) }
+    requires { (m ≤ 12) × ((a : List ℕ) × (least_assignment m (copied m t.now) ≡ Some a) × (tasks ≡ task_list a)) }
     ensures { Answered m (copied m t.now) result }
 {
     let columns = column_prices(m, merged, true);

@@ -4,7 +4,7 @@ use Prim.Native.Nat.{ℕ, ◌≤◌, ◌<◌}
 use mathlib.Core.Path.{◌≡◌, sym, ap, subst, ◌∙◌}
 use mathlib.Core.Bool.{Bool, true, false}
 use mathlib.Core.List.{List}
-use mathlib.Core.Option.{none, some}
+use Rattle.std.specs.Prelude.{None, Some}
 use native.Mathlib.Nat.{mul-le-mul_left}
 use native.Mathlib.Decide.{ℕ_discrete}
 use native.Mathlib.Omega.{arith}
@@ -117,10 +117,10 @@ module _ (m : ℕ) (small : m ≤ 12) (t w u v task carrier : List ℕ) (W : Wei
       let li = (mem_below m).0 n in
       ap weigh (sym (copied_at m small true t w W i (a at i) li ((solved_assignment m small w u v task carrier S).tasks i li))))
 
-  pub first_none : heavy ≤ s → least_assignment m table ≡ none
+  pub first_none : heavy ≤ s → least_assignment m table ≡ None
   first_none h = merged_none m small table (copied_words m small true t w W) a (solved_assignment m small w u v task carrier S) least (rw weight_is at h)
 
-  pub first_some : s < heavy → (least_assignment m table ≡ some a) × (s ≡ sum_of m table a)
+  pub first_some : s < heavy → (least_assignment m table ≡ Some a) × (s ≡ sum_of m table a)
   first_some h =
       let l = rw weight_is at h in
       let words = copied_words m small true t w W in
@@ -128,12 +128,12 @@ module _ (m : ℕ) (small : m ≤ 12) (t w u v task carrier : List ℕ) (W : Wei
       (merged_first m small table words a A least l, weight_is ∙ unbarred_cost m small table words a (light_unbarred m small table words a A l))
 
 -- the answers
-pub candidate_none : (m : ℕ) (table : List ℕ) → least_assignment m table ≡ none
+pub candidate_none : (m : ℕ) (table : List ℕ) → least_assignment m table ≡ None
     → ◌≡◌ {A = Candidate} (record { found = false; sum = 0; tasks = no_tasks }) (candidate_for m table (least_assignment m table))
 unfolding candidate_for
 candidate_none m table e = rw e
 
-pub candidate_some : (m : ℕ) (table a : List ℕ) (s : ℕ) (tasks : List ℕ) → least_assignment m table ≡ some a → s ≡ sum_of m table a → tasks ≡ task_list a
+pub candidate_some : (m : ℕ) (table a : List ℕ) (s : ℕ) (tasks : List ℕ) → least_assignment m table ≡ Some a → s ≡ sum_of m table a → tasks ≡ task_list a
     → ◌≡◌ {A = Candidate} (record { found = true; sum = s; tasks = tasks }) (candidate_for m table (least_assignment m table))
 unfolding candidate_for
 candidate_some m table a s tasks e f g = rw (e, f, g)

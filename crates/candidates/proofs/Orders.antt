@@ -4,7 +4,7 @@ use mathlib.Core.Path.{◌≡◌, refl, sym, ap, subst, ◌∙◌}
 use mathlib.Core.Logic.{◌⊎◌, inl, inr, ⊎_elim}
 use mathlib.Core.Bool.{Bool, true, false, cond}
 use mathlib.Core.List.{List, [], ◌∷◌}
-use mathlib.Core.Option.{some}
+use Rattle.std.specs.Prelude.{Some}
 use native.Mathlib.Nat.{le_of_suc-le-suc, suc_inj}
 use native.Mathlib.Omega.{arith}
 use lib.ListN.{length, replicate, get_or-append, get_or-replicate}
@@ -77,7 +77,7 @@ back a k h l =
 
 -- THE ORDER OF CANDIDATES is that of their assignments
 pub says_earlier : (m : ℕ) (table a b : List ℕ) → m ≤ 12 → length a ≡ m → length b ≡ m
-    → Says (earlier (candidate_for m table (some a)) (candidate_for m table (some b))) (Less m table a b)
+    → Says (earlier (candidate_for m table (Some a)) (candidate_for m table (Some b))) (Less m table a b)
 unfolding candidate_for
 says_earlier m table a b small la lb =
     says_then (sum_of m table a) (sum_of m table b) (less_from 12 0 (task_list a) (task_list b))

@@ -4,7 +4,7 @@ use mathlib.Core.Path.{◌≡◌, refl, sym, ap, ◌∙◌}
 use mathlib.Core.Logic.{⊎_elim}
 use mathlib.Core.Bool.{true, false, false≢true}
 use mathlib.Core.List.{List}
-use mathlib.Core.Option.{Option, none, some}
+use Rattle.std.specs.Prelude.{Option, None, Some}
 use native.Mathlib.Omega.{arith}
 use lib.ListN.{take}
 use lib.Seq.{get_or-take}
@@ -22,16 +22,16 @@ use Rattle.candidates.specs.declared.Candidate.{Candidate as Found}
 use Rattle.candidates.specs.Candidates.{candidate_for}
 
 -- WHAT A CANDIDATE SAYS
-pub not_found : (m : ℕ) (table : List ℕ) (o : Option (List ℕ)) (c : Found) → c ≡ candidate_for m table o → c.found ≡ false → o ≡ none
+pub not_found : (m : ℕ) (table : List ℕ) (o : Option (List ℕ)) (c : Found) → c ≡ candidate_for m table o → c.found ≡ false → o ≡ None
 unfolding candidate_for
-not_found m table none c e f = refl
-not_found m table (some a) c e f = absurd (false≢true (sym f ∙ ap (λ (x : Found). x.found) e))
+not_found m table None c e f = refl
+not_found m table (Some a) c e f = absurd (false≢true (sym f ∙ ap (λ (x : Found). x.found) e))
 
 pub found : (m : ℕ) (table : List ℕ) (o : Option (List ℕ)) (c : Found) → c ≡ candidate_for m table o → c.found ≡ true
-    → (a : List ℕ) × (o ≡ some a) × (c.tasks ≡ task_list a)
+    → (a : List ℕ) × (o ≡ Some a) × (c.tasks ≡ task_list a)
 unfolding candidate_for
-found m table none c e f = absurd (false≢true (sym (ap (λ (x : Found). x.found) e) ∙ f))
-found m table (some a) c e f = (a, refl, ap (λ (x : Found). x.tasks) e)
+found m table None c e f = absurd (false≢true (sym (ap (λ (x : Found). x.found) e) ∙ f))
+found m table (Some a) c e f = (a, refl, ap (λ (x : Found). x.tasks) e)
 
 -- A SLOT: its part's candidate is the least assignment of the part's working copy
 module _ (m : ℕ) (table tasks closed : List ℕ) (row j : ℕ) (low : j < m) where
@@ -54,8 +54,8 @@ module _ (m : ℕ) (table tasks closed : List ℕ) (row j : ℕ) (low : j < m) w
   -- at the same sum
   same_candidate : (o : Option (List ℕ)) → Candidate m table q o → candidate_for m table' o ≡ candidate_for m table o
   unfolding candidate_for
-  same_candidate none c = refl
-  same_candidate (some a) c = rw (part_sum m table q low a c.0.0 c.1)
+  same_candidate None c = refl
+  same_candidate (Some a) c = rw (part_sum m table q low a c.0.0 c.1)
 
   pub slot_first : (c p : List ℕ) (r : Found) → c ≡ (slot_part tasks row closed j).closed → copied m p ≡ part_table m table (part_at j tasks c)
       → r ≡ candidate_for m (copied m p) (least_assignment m (copied m p)) → r ≡ candidate_for m table (candidate m table q)

@@ -4,7 +4,7 @@ use mathlib.Core.Path.{◌≡◌, refl, sym, ap, subst, ◌∙◌}
 use mathlib.Core.Logic.{◌⊎◌, inl, inr}
 use mathlib.Core.Bool.{false}
 use mathlib.Core.List.{List}
-use mathlib.Core.Option.{Option, none, some}
+use Rattle.std.specs.Prelude.{Option, None, Some}
 use native.Mathlib.Numerals.{add-one}
 use native.Mathlib.Omega.{arith}
 use lib.ListN.{length}
@@ -33,8 +33,8 @@ module _ (m h : ℕ) (ws : List ℕ) where
   meant = by_cause (collision_cause m h ws) refl
     where
       found : (o : Option Collision) → collision_cause m h ws ≡ 0 → FirstMeant m h (pieces m (suc h) ws) o → Meant m h ws (collision_found o)
-      found none z k = (z, k)
-      found (some c) z k = (z, k)
+      found None z k = (z, k)
+      found (Some c) z k = (z, k)
 
       by_cause : (n : ℕ) → n ≡ collision_cause m h ws → Meant m h ws (collision_for n m h ws)
       by_cause zero e = found (first_collision m h (pieces m (suc h) ws)) (sym e) (first_collision_meant m h (pieces m (suc h) ws))

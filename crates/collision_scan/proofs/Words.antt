@@ -3,7 +3,7 @@ use Prim.Native.Nat.{ℕ, suc, ◌+◌, ◌*◌, ◌≤◌, ◌<◌}
 use mathlib.Core.Path.{◌≡◌, refl, sym, ap, ap₂, ◌∙◌}
 use mathlib.Core.Bool.{Bool, true, false, ◌&&◌, not}
 use mathlib.Core.List.{List}
-use mathlib.Core.Option.{Option, none, some}
+use Rattle.std.specs.Prelude.{Option, None, Some}
 use native.Mathlib.Nat.{suc-mul, mul-le-mul_right}
 use native.Mathlib.Omega.{arith}
 use native.Mathlib.Numerals.{add-one}
@@ -92,12 +92,12 @@ module _ (m h : ℕ) (ws : List ℕ) where
   abbrev pub First : Option Collision → Type 0
   First o = first_collision m h (pieces m (suc h) ws) ≡ o
 
-  pub none_found : First none → NoCollision ≡ collision_found (first_collision m h (pieces m (suc h) ws))
+  pub none_found : First None → NoCollision ≡ collision_found (first_collision m h (pieces m (suc h) ws))
   unfolding collision_found
   none_found e = rw e
 
   pub place_found : (n i j t : ℕ) → n ≡ suc h → i < m → t < n → {r : CollisionAnswer} → r ≡ place_answer ws n (carrier i) (carrier j) t
-      → First (some (place_collision (pieces m (suc h) ws) t (i, j)))
+      → First (Some (place_collision (pieces m (suc h) ws) t (i, j)))
       → r ≡ collision_found (first_collision m h (pieces m (suc h) ws))
   unfolding collision_found
   place_found n i j t q a b e f =
@@ -105,7 +105,7 @@ module _ (m h : ℕ) (ws : List ℕ) where
       rw (f, ← p) e
 
   pub move_found : (n i j t : ℕ) → n ≡ suc h → i < m → suc t < n → {r : CollisionAnswer} → r ≡ move_answer ws n (carrier i) (carrier j) t
-      → First (some (move_collision (pieces m (suc h) ws) t (i, j)))
+      → First (Some (move_collision (pieces m (suc h) ws) t (i, j)))
       → r ≡ collision_found (first_collision m h (pieces m (suc h) ws))
   unfolding collision_found
   move_found n i j t q a b e f =

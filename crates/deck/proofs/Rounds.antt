@@ -12,7 +12,7 @@ use Rattle.deck.specs.Assignments.{arrangements, assignments, entries_from, entr
 use Rattle.deck.specs.Search.{searched}
 use Rattle.deck.specs.Planner.{sides, sides_of, problem, plan_for, or_dark, round_of}
 use Rattle.deck.specs.PlanCheck.{follows, is_path, are_paths, is_assignment, is_plan, plan_check}
-use Rattle.deck.specs.Calls.{workspace_for, workspace_of, goals_cause, goals_call, constraints_of, good_record, good_records, path_cause, path_found, path_written, path_answer_for, path_output_for, assignment_cause, least_for, assignment_kind, assignment_tasks, collision_cause, collision_found, collision_for, collision_call, search_cause, search_found, search_written, search_answer_for, search_output_for, search_answer, search_output, check_cause, check_found, check_for, check_call}
+use Rattle.deck.specs.Calls.{workspace_for, workspace_of, goals_cause, goals_call, constraints_of, good_record, good_records, path_cause, path_found, path_written, path_answer_for, path_output_for, assignment_cause, least_for, sum_found, assignment_answer_for, assignment_tasks, collision_cause, collision_call, search_cause, search_found, search_written, search_answer_for, search_output_for, search_answer, search_output, check_cause, check_call}
 use Rattle.deck.specs.Listing.{digits, decimal, text_from, text, spaced, carrier_line, carrier_lines, listing_for, listing}
 use Rattle.deck.specs.Rounds.{Round, answered, Holds}
 use Rattle.deck.specs.Starred.{starred}
@@ -26,7 +26,7 @@ Every [] = Unit {0}
 Every (r ∷ rs) = Holds r × Every rs
 
 every_round : Every starred × Every further × Every lanes × Every dark × Every orders
-unfolding words good_header chained goals_size good_directory good_grid good_starts good_goals good_last_goals cause sheet_cause one_apart next_to may_leave beside may_step steps walks visit left finish serves keeps paths_under least_path pairs place_collides move_collides collisions_at collisions first_collision arrangements assignments entries_from entries sum_of allowed assignments_in_order least_assignment entry_of table_of searched sides sides_of problem plan_for or_dark round_of follows is_path are_paths is_assignment is_plan plan_check workspace_for workspace_of goals_cause goals_call constraints_of good_record good_records path_cause path_found path_written path_answer_for path_output_for assignment_cause least_for assignment_kind assignment_tasks collision_cause collision_found collision_for collision_call search_cause search_found search_written search_answer_for search_output_for search_answer search_output check_cause check_found check_for check_call digits decimal text_from text spaced carrier_line carrier_lines listing_for listing insert sort_by answered
+unfolding words good_header chained goals_size good_directory good_grid good_starts good_goals good_last_goals cause sheet_cause one_apart next_to may_leave beside may_step steps walks visit left finish serves keeps paths_under least_path pairs place_collides move_collides collisions_at collisions first_collision arrangements assignments entries_from entries sum_of allowed assignments_in_order least_assignment entry_of table_of searched sides sides_of problem plan_for or_dark round_of follows is_path are_paths is_assignment is_plan plan_check workspace_for workspace_of goals_cause goals_call constraints_of good_record good_records path_cause path_found path_written path_answer_for path_output_for assignment_cause least_for sum_found assignment_answer_for assignment_tasks collision_cause collision_call search_cause search_found search_written search_answer_for search_output_for search_answer search_output check_cause check_call digits decimal text_from text spaced carrier_line carrier_lines listing_for listing insert sort_by answered
 every_round = (
   (refl, (refl, (refl, (refl, (refl, (refl, (refl, (refl, (refl, (refl, (refl, (refl, (refl, (refl, (refl, (refl, (refl, (refl, (refl, tt))))))))))))))))))),
   (refl, (refl, (refl, (refl, (refl, (refl, (refl, (refl, (refl, (refl, (refl, (refl, (refl, (refl, (refl, (refl, (refl, (refl, (refl, (refl, (refl, (refl, (refl, (refl, (refl, (refl, (refl, (refl, (refl, (refl, (refl, (refl, (refl, (refl, (refl, (refl, (refl, (refl, (refl, (refl, (refl, (refl, (refl, (refl, (refl, (refl, (refl, (refl, (refl, (refl, (refl, (refl, (refl, (refl, (refl, (refl, (refl, (refl, (refl, (refl, (refl, (refl, (refl, (refl, (refl, (refl, (refl, (refl, (refl, (refl, (refl, (refl, (refl, (refl, (refl, (refl, tt)))))))))))))))))))))))))))))))))))))))))))))))))))))))))))))))))))))))))))),

@@ -1,6 +1,6 @@
 -- Document 01, "Assignments in order". An assignment is the list of the carriers' task numbers, carrier 0 first. Assumes nothing.
 use Rattle.std.specs.Prelude.{ℕ, zero, suc, ◌+◌, ◌*◌, ◌<◌, ◌≡◌, ◌≢◌, not, List, [], ◌∷◌, map, get_or, ℤ, pos, ◌+ℤ◌, ◌≤ℤ◌, eqb}
-use Rattle.std.proofs.Math.Option.{Option, none, some}
+use Rattle.std.specs.Prelude.{Option, None, Some}
 use Rattle.deck.specs.Lists.{◌at◌, below, all, select, each, in_order, head_of, sum}
 use Rattle.deck.specs.Sheet.{Sheet, carrier, task}
 use Rattle.deck.specs.Paths.{least_path, finish_of}
@@ -57,8 +57,8 @@ pub record Priced (m : ℕ) (table tasks : List ℕ) (rows columns : List ℤ) :
   pub below : (j : ℕ) → j < m → get_or columns j (pos 0) ≤ℤ pos 0
 
 unfoldable pub entry_of : Sheet → Task → Option (List ℕ) → ℕ
-entry_of d j none = barred
-entry_of d j (some p) = finish_of d j p
+entry_of d j None = barred
+entry_of d j (Some p) = finish_of d j p
 
 -- "The table entry for carrier i, task j is the finish of the least path without constraints"
 unfoldable pub table_of : Sheet → List ℕ

@@ -1,7 +1,8 @@
 -- Worked rounds of document 02, "A dark house". Assumes nothing.
 use Rattle.std.specs.Prelude.{List, [], ◌∷◌, replicate}
-use Rattle.deck.specs.Calls.{task_list, no_tasks}
+use Rattle.deck.specs.Calls.{task_list}
 use Rattle.deck.specs.Listing.{text}
+use Rattle.deck.specs.Numbers.{no_tasks}
 use Rattle.deck.specs.Rounds.{Round, ask_cause, ask_goals, ask_path, ask_assignment, ask_collision, ask_search, ask_check, ask_listing, ◌gives◌, planned}
 
 abbrev pub dark : List Round

@@ -1,7 +1,8 @@
 -- Rounds of our own: each pins a rule of document 01 that the starred rounds leave open, named above it. Assumes nothing.
 use Rattle.std.specs.Prelude.{List, [], ◌∷◌, ◌++◌, replicate}
-use Rattle.deck.specs.Calls.{task_list, no_tasks}
+use Rattle.deck.specs.Calls.{task_list}
 use Rattle.deck.specs.Listing.{text}
+use Rattle.deck.specs.Numbers.{no_tasks}
 use Rattle.deck.specs.Rounds.{Round, ask_cause, ask_goals, ask_path, ask_assignment, ask_collision, ask_search, ask_check, ask_listing, ◌gives◌, searching, pathing, sheet, sheet_on, found, no_path, planned, none, spent, refused, round6, crossing}
 
 abbrev pub searches : List Round

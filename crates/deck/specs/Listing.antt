@@ -1,14 +1,15 @@
 -- What the program deckround prints, byte for byte: document 01, "Rounds worked out". Assumes nothing.
-use Rattle.std.specs.Prelude.{ℕ, zero, suc, ◌+◌, ◌/◌, ◌%◌, cond, List, [], ◌∷◌, ◌++◌, replicate, ltb}
+use Rattle.std.specs.Prelude.{ℕ, zero, suc, ◌+◌, ◌/◌, ◌%◌, cond, List, [], ◌∷◌, ◌++◌, replicate, ltb, Result, Ok, Err}
 use Prim.Native.Char.{code}
 use Prim.Native.String.{String, len, char_at}
+use Rattle.deck.specs.Causes.{number}
 use Rattle.deck.specs.Lists.{◌at◌, path_of, below, each, pieces}
 use Rattle.deck.specs.Sheet.{Sheet, read, task}
 use Rattle.deck.specs.Paths.{finish_of}
 use Rattle.deck.specs.Calls.{search_answer, search_output}
-use Rattle.deck.specs.declared.SearchKind.{SearchKind}
-use Rattle.deck.specs.declared.SearchKind.TheVariants.{Plan, NoPlan, Spent, Refused}
+use Rattle.deck.specs.declared.cause.Cause.{Cause}
 use Rattle.deck.specs.declared.SearchAnswer.{SearchAnswer}
+use Rattle.deck.specs.declared.SearchAnswer.TheVariants.{Plan, NoPlan, Spent}
 
 -- the digits of n before those of `after`, with fuel for as many
 unfoldable pub digits : ℕ → ℕ → List ℕ → List ℕ
@@ -47,16 +48,14 @@ unfoldable pub carrier_lines : Sheet → List ℕ → List (List ℕ) → List �
 carrier_lines d tasks ps = each (λ i. carrier_line d i (tasks at i) (path_of ps i)) (below d.count)
 
 -- of the answer, and of the words of output
-unfoldable pub listing_for : Sheet → SearchKind → SearchAnswer → List ℕ → List ℕ
-listing_for d Plan a out =
-    text "plan " ++ decimal a.flowtime ++ text " nodes " ++ decimal a.nodes ++ text "\n"
-    ++ carrier_lines d a.tasks (pieces d.count (suc d.horizon) out)
-listing_for d NoPlan a out = text "none nodes " ++ decimal a.nodes ++ text "\n"
-listing_for d Spent a out = text "spent " ++ decimal a.bound ++ text " nodes " ++ decimal a.nodes ++ text "\n"
-listing_for d (Refused c) a out = text "refused " ++ decimal c ++ text "\n"
+unfoldable pub listing_for : Sheet → Result SearchAnswer Cause → List ℕ → List ℕ
+listing_for d (Ok (Plan tasks f n b)) out =
+    text "plan " ++ decimal f ++ text " nodes " ++ decimal n ++ text "\n"
+    ++ carrier_lines d tasks (pieces d.count (suc d.horizon) out)
+listing_for d (Ok (NoPlan n)) out = text "none nodes " ++ decimal n ++ text "\n"
+listing_for d (Ok (Spent n b)) out = text "spent " ++ decimal b ++ text " nodes " ++ decimal n ++ text "\n"
+listing_for d (Err c) out = text "refused " ++ decimal (number c) ++ text "\n"
 
 -- "It lends 16384 words of workspace and 3072 of output"; what they held before changes nothing, here 0
 unfoldable pub listing : List ℕ → List ℕ
-listing s =
-    let a = search_answer s 16384 3072 in
-    listing_for (read s) a.kind a (search_output s 16384 (replicate 3072 0))
+listing s = listing_for (read s) (search_answer s 16384 3072) (search_output s 16384 (replicate 3072 0))

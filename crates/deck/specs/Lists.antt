@@ -1,6 +1,6 @@
 -- Lists and tests on them: what the other definitions are made of. Assumes nothing.
 use Rattle.std.specs.Prelude.{ℕ, zero, suc, ◌+◌, Bool, true, false, cond, ◌&&◌, ◌||◌, not, List, [], ◌∷◌, ◌++◌, length, get_or, take, drop, eqb, leb}
-use Rattle.std.proofs.Math.Option.{Option, none, some}
+use Rattle.std.specs.Prelude.{Option, None, Some}
 
 infixl 80 ◌at◌
 -- the number at an index, 0 past the end: of a path, the place at a time; of a task list, the task of a carrier
@@ -54,8 +54,8 @@ module _ {A : Type 0} where
   is_nil (x ∷ xs) = false
 
   abbrev pub head_of : List A → Option A
-  head_of [] = none
-  head_of (x ∷ xs) = some x
+  head_of [] = None
+  head_of (x ∷ xs) = Some x
 
   abbrev pub all : (A → Bool) → List A → Bool
   all f [] = true
@@ -76,17 +76,17 @@ module _ {A : Type 0} where
   pieces (suc n) k l = take k l ∷ pieces n k (drop k l)
 
   abbrev pub pick_least : (A → ℕ) → A → List A → Option (A × List A) → Option (A × List A)
-  pick_least key x xs none = some (x, [])
-  pick_least key x xs (some t) = cond (leb (key x) (key t.0)) (some (x, xs)) (some (t.0, x ∷ t.1))
+  pick_least key x xs None = Some (x, [])
+  pick_least key x xs (Some t) = cond (leb (key x) (key t.0)) (Some (x, xs)) (Some (t.0, x ∷ t.1))
 
   -- the first of the elements of least key, with the list without it
   abbrev pub take_least : (A → ℕ) → List A → Option (A × List A)
-  take_least key [] = none
+  take_least key [] = None
   take_least key (x ∷ xs) = pick_least key x xs (take_least key xs)
 
   abbrev pub hand_out : (List A → List A) → Option (A × List A) → List A
-  hand_out f none = []
-  hand_out f (some t) = t.0 ∷ f t.1
+  hand_out f None = []
+  hand_out f (Some t) = t.0 ∷ f t.1
 
   -- the first n in the order of the key, equal ones as they stand: the least is taken again and again
   abbrev pub first_in_order : (A → ℕ) → ℕ → List A → List A

@@ -1,7 +1,7 @@
 -- Document 01, "Path and plan" as far as one carrier goes, and "One carrier's least path"; document 02, "One-way lanes". Assumes
 -- nothing.
 use Rattle.std.specs.Prelude.{ℕ, zero, suc, ◌/◌, ◌%◌, Bool, true, ◌&&◌, ◌||◌, not, cond, List, [], ◌∷◌, map, leb, eqb}
-use Rattle.std.proofs.Math.Option.{Option, none, some}
+use Rattle.std.specs.Prelude.{Option, None, Some}
 use Rattle.deck.specs.Lists.{◌at◌, below, all, select, each, take_least, is_nil}
 use Rattle.deck.specs.Sheet.{Sheet, area, grid_byte, free, start_of, goals_of, last_goal}
 use Rattle.deck.specs.declared.Carrier.{Carrier}
@@ -77,8 +77,8 @@ unfoldable pub paths_under : Sheet → Carrier → Task → List Constraint → 
 paths_under d i j cs = select (λ p. serves d j p && all (keeps i p) cs) (walks d d.horizon (start_of d i))
 
 abbrev pub taken : Option (List ℕ × List (List ℕ)) → Option (List ℕ)
-taken none = none
-taken (some t) = some t.0
+taken None = None
+taken (Some t) = Some t.0
 
 -- "The least path keeps its carrier's constraints and has the least finish; among those it comes first"
 unfoldable pub least_path : Sheet → Carrier → Task → List Constraint → Option (List ℕ)

@@ -1,6 +1,6 @@
 -- The plan check of document 01, "When the planner declines" and "Path and plan". Assumes nothing.
 use Rattle.std.specs.Prelude.{ℕ, suc, Bool, true, false, ◌&&◌, cond, List, [], ◌∷◌, length, take, drop, ltb, eqb}
-use Rattle.std.proofs.Math.Option.{Option, none, some}
+use Rattle.std.specs.Prelude.{Option, None, Some}
 use Rattle.deck.specs.Lists.{◌at◌, all, distinct, is_nil}
 use Rattle.deck.specs.Sheet.{Sheet, carrier, task, start_of}
 use Rattle.deck.specs.Paths.{may_step, serves}
@@ -40,4 +40,4 @@ is_plan d a ps = is_assignment d.count a && are_paths d 0 a ps && is_nil (collis
 unfoldable pub plan_check : Sheet → List ℕ → List (List ℕ) → Option ℕ
 plan_check d tasks ps =
     let a = take d.count tasks in
-    cond (all (eqb 255) (drop d.count tasks) && is_plan d a ps) (some (flowtime (problem d) a ps)) none
+    cond (all (eqb 255) (drop d.count tasks) && is_plan d a ps) (Some (flowtime (problem d) a ps)) None

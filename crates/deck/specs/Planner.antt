@@ -1,6 +1,6 @@
 -- The deck as an instance of the search. Assumes nothing.
 use Rattle.std.specs.Prelude.{ℕ, cond, List, [], eqb}
-use Rattle.std.proofs.Math.Option.{Option, none, some}
+use Rattle.std.specs.Prelude.{Option, None, Some}
 use Rattle.deck.specs.Sheet.{Sheet, carrier, task}
 use Rattle.deck.specs.Paths.{least_path, finish_of}
 use Rattle.deck.specs.Collisions.{first_collision}
@@ -21,8 +21,8 @@ sides (PlaceCollision t i j u) = (Place i u t, Place j u t)
 sides (MoveCollision t i j u v) = (Move i u v t, Move j v u t)
 
 unfoldable pub sides_of : Option Collision → Option (Constraint × Constraint)
-sides_of none = none
-sides_of (some c) = some (sides c)
+sides_of None = None
+sides_of (Some c) = Some (sides c)
 
 unfoldable pub problem : Sheet → Problem (List ℕ) Constraint
 problem d =
@@ -38,8 +38,8 @@ problem d =
 
 -- the answer that is always there (proofs/Fuel)
 abbrev pub answer_or : Option (Answer (List ℕ)) → Answer (List ℕ)
-answer_or none = no_plan 0
-answer_or (some a) = a
+answer_or None = no_plan 0
+answer_or (Some a) = a
 
 -- the search of an accepted sheet that has bytes
 unfoldable pub plan_for : Sheet → Answer (List ℕ)

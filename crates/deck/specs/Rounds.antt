@@ -4,8 +4,8 @@ use Rattle.std.specs.Prelude.{ℕ, suc, ◌+◌, ◌*◌, ◌/◌, ◌%◌, ◌�
 use Rattle.deck.specs.Lists.{below, each, flat}
 use Rattle.deck.specs.Ranks.{sort_by}
 use Rattle.deck.specs.Sheet.{read, carrier, task, end_of_pairs, sheet_cause}
-use Rattle.deck.specs.Calls.{task_list, no_tasks, workspace_for, plan_words, goals_call, path_cause, path_answer_for, path_output_for, assignment_cause, least_for, assignment_kind, assignment_tasks, collision_call, search_answer, search_output, check_call}
-use Rattle.deck.specs.Numbers.{path_numbers, assignment_numbers, collision_numbers, search_numbers, check_numbers}
+use Rattle.deck.specs.Calls.{task_list, workspace_for, plan_words, goals_call, path_cause, path_answer_for, path_output_for, assignment_cause, least_for, assignment_answer_for, assignment_tasks, collision_call, search_answer, search_output, check_call}
+use Rattle.deck.specs.Numbers.{no_tasks, cause_number, found_numbers, path_numbers, collision_numbers, search_numbers, check_numbers}
 use Rattle.deck.specs.Listing.{listing}
 
 pub data Question : Type 0 where
@@ -30,7 +30,7 @@ pub data Question : Type 0 where
 
 -- the answer in numbers, then the words of output, which held 9 before
 unfoldable pub answered : Question → List ℕ
-answered (ask_cause s) = sheet_cause s ∷ []
+answered (ask_cause s) = cause_number (sheet_cause s) ∷ []
 answered (ask_goals s j) = let r = goals_call s (task j) in r.offset ∷ r.size ∷ []
 answered (ask_path s i j work words rs) =
     let c = path_cause s (carrier i) (task j) work words rs in
@@ -38,8 +38,7 @@ answered (ask_path s i j work words rs) =
     ++ path_output_for c (read s) (carrier i) (task j) rs (replicate words 9)
 answered (ask_assignment m table) =
     let c = assignment_cause m table in
-    let o = least_for c m table in
-    assignment_numbers (assignment_kind c m table o) ++ assignment_tasks o
+    found_numbers (assignment_answer_for c m table) ++ assignment_tasks (least_for c m table)
 answered (ask_collision m h ws) = collision_numbers (collision_call m h ws)
 answered (ask_search s work words) = search_numbers (search_answer s work words) ++ search_output s work (replicate words 9)
 answered (ask_check s tasks ws) = check_numbers (check_call s tasks ws)

@@ -1,7 +1,7 @@
 -- Document 01, "The search", over abstract parts: paths and constraints are any two types, and the selection rule and the
 -- node limit are parameters. Assumes nothing.
 use Rattle.std.specs.Prelude.{ℕ, zero, suc, ◌+◌, Bool, true, false, List, [], ◌∷◌, ◌++◌, map, length, get_or, set, leb}
-use Rattle.std.proofs.Math.Option.{Option, none, some}
+use Rattle.std.specs.Prelude.{Option, None, Some}
 use Rattle.deck.specs.Lists.{◌at◌, below, sum, take_least}
 
 -- What the search is given
@@ -63,8 +63,8 @@ module _ {Path Constraint : Type 0} (w : Problem Path Constraint) where
   flowtime a ps = sum (map (λ i. w.finish (task_of a i) (path_at ps i)) (below w.count))
 
   abbrev pub path_or : Option Path → Path
-  path_or none = w.no_path
-  path_or (some p) = p
+  path_or None = w.no_path
+  path_or (Some p) = p
 
   -- the least paths without constraints
   abbrev pub root_paths : List ℕ → List Path
@@ -80,8 +80,8 @@ module _ {Path Constraint : Type 0} (w : Problem Path Constraint) where
 
   -- "A child without a path is not made"
   abbrev pub child_with : Node Path Constraint → Constraint → Option Path → List (Node Path Constraint)
-  child_with n c none = []
-  child_with n c (some p) = child_node n c p ∷ []
+  child_with n c None = []
+  child_with n c (Some p) = child_node n c p ∷ []
 
   -- the child of n by one more constraint: the path of the carrier that it binds is made anew
   abbrev pub child : Node Path Constraint → Constraint → List (Node Path Constraint)
@@ -115,31 +115,31 @@ module _ {Path Constraint : Type 0} (w : Problem Path Constraint) (limit : ℕ)
 
   -- "If it has no collision, it is the plan. Otherwise .." it is expanded
   abbrev pub expand : State Path Constraint → Selected Path Constraint → Option (Constraint × Constraint) → Turn Path Constraint
-  expand s k none = done (plan k.node.tasks k.node.paths k.node.cost s.made k.bound)
-  expand s k (some cc) =
+  expand s k None = done (plan k.node.tasks k.node.paths k.node.cost s.made k.bound)
+  expand s k (Some cc) =
       let new = to_make w k.node cc s.rest in
       extend s k new (leb (s.made + length new) limit)
 
   -- "No open node: none"
   abbrev pub turn_with : State Path Constraint → Option (Selected Path Constraint) → Turn Path Constraint
-  turn_with s none = done (no_plan s.made)
-  turn_with s (some k) = expand s k (w.collision k.node.paths)
+  turn_with s None = done (no_plan s.made)
+  turn_with s (Some k) = expand s k (w.collision k.node.paths)
 
   abbrev pub turn : State Path Constraint → Turn Path Constraint
   turn s = turn_with s (choose s.opened)
 
   abbrev pub onward : (State Path Constraint → Option (Answer Path)) → Turn Path Constraint → Option (Answer Path)
-  onward f (done a) = some a
+  onward f (done a) = Some a
   onward f (more s) = f s
 
   -- "Repeat": none only if the turns run out, which limit + 1 of them never do (proofs/Fuel)
   abbrev pub run : ℕ → State Path Constraint → Option (Answer Path)
-  run zero s = none
+  run zero s = None
   run (suc n) s = onward (run n) (turn s)
 
   -- "Node 0 is the root of the first assignment; without one the answer is none, 0 nodes"
   abbrev pub search_from : List (List ℕ) → Option (Answer Path)
-  search_from [] = some (no_plan 0)
+  search_from [] = Some (no_plan 0)
   search_from (a ∷ rest) = run (suc limit) (record { opened = root_of w a ∷ []; made = 1; rest = rest })
 
   unfoldable pub searched : Option (Answer Path)
@@ -148,8 +148,8 @@ module _ {Path Constraint : Type 0} (w : Problem Path Constraint) (limit : ℕ)
 -- The selection rule of the exact search: "the open node of least cost, then of least number"
 module _ {Path Constraint : Type 0} where
   abbrev pub selected : Option (Node Path Constraint × List (Node Path Constraint)) → Option (Selected Path Constraint)
-  selected none = none
-  selected (some t) = some (record { node = t.0; others = t.1; bound = t.0.cost })
+  selected None = None
+  selected (Some t) = Some (record { node = t.0; others = t.1; bound = t.0.cost })
 
   abbrev pub cheapest : List (Node Path Constraint) → Option (Selected Path Constraint)
   cheapest l = selected (take_least (λ n. n.cost) l)

@@ -1,9 +1,12 @@
 -- Document 01, "The job sheet", and causes 1 to 7 of "When the planner declines". Assumes nothing.
-use Rattle.std.specs.Prelude.{ℕ, zero, suc, ◌+◌, ◌*◌, ◌%◌, Bool, ◌&&◌, not, cond, List, [], ◌∷◌, map, length, get_or, take, drop, ltb, leb, eqb}
-use Rattle.deck.specs.Causes.{short_sheet, bad_header, bad_directory, bad_grid, bad_start, bad_goal, shared_last_goal}
+use Rattle.std.specs.Prelude.{ℕ, zero, suc, ◌+◌, ◌*◌, ◌%◌, Bool, ◌&&◌, not, cond, List, [], ◌∷◌, map, length, get_or, take, drop, ltb, leb, eqb, Option, None}
+use Rattle.deck.specs.Causes.{unless, ◌or_else◌}
 use Rattle.deck.specs.Lists.{below, within, all, distinct, last, greatest}
 use Rattle.deck.specs.declared.Carrier.{Carrier}
 use Rattle.deck.specs.declared.Task.{Task}
+use Rattle.deck.specs.declared.Stretch.{Stretch}
+use Rattle.deck.specs.declared.cause.Cause.{Cause}
+use Rattle.deck.specs.declared.cause.Cause.TheVariants.{ShortSheet, BadHeader, BadDirectory, BadGrid, BadStart, BadGoal, SharedLastGoal}
 
 abbrev pub carrier : ℕ → Carrier
 carrier i = record { 0 = i }
@@ -41,10 +44,6 @@ abbrev pub limit_of : List ℕ → ℕ
 limit_of s = word_at s 4
 
 -- "From byte 8, m + 2 pairs of offset and length": a pair names a stretch of the sheet
-pub record Stretch : Type 0 where
-  pub offset : ℕ
-  pub size : ℕ
-
 abbrev pub pair_at : List ℕ → ℕ → Stretch
 pair_at s k = record { offset = word_at s (8 + 4 * k); size = word_at s (10 + 4 * k) }
 
@@ -176,28 +175,18 @@ good_goals d = all (all (free d)) d.tasks
 unfoldable pub good_last_goals : Sheet → Bool
 good_last_goals d = distinct (map (last 0) d.tasks)
 
--- the number of a cause where its test fails, and else 0
-abbrev pub unless : Bool → ℕ → ℕ
-unless ok n = cond ok 0 n
-
--- "Causes are tried in this order": the first that is not 0
-infixr 20 ◌or_else◌
-abbrev pub ◌or_else◌ : ℕ → ℕ → ℕ
-zero or_else d = d
-(suc c) or_else d = suc c
-
--- of a sheet that has bytes: 0 where it is accepted, and else the number of the first cause that lies in it
-unfoldable pub cause : List ℕ → ℕ
+-- of a sheet that has bytes: the first cause that lies in it, none where it is accepted
+unfoldable pub cause : List ℕ → Option Cause
 cause s =
-    unless (leb 8 (length s)) short_sheet
-    or_else unless (good_header s) bad_header
-    or_else unless (good_directory s) bad_directory
-    or_else unless (good_grid (read s)) bad_grid
-    or_else unless (good_starts (read s)) bad_start
-    or_else unless (good_goals (read s)) bad_goal
-    or_else unless (good_last_goals (read s)) shared_last_goal
+    unless (leb 8 (length s)) ShortSheet
+    or_else unless (good_header s) BadHeader
+    or_else unless (good_directory s) BadDirectory
+    or_else unless (good_grid (read s)) BadGrid
+    or_else unless (good_starts (read s)) BadStart
+    or_else unless (good_goals (read s)) BadGoal
+    or_else unless (good_last_goals (read s)) SharedLastGoal
 
 -- document 02, "A dark house": "a sheet of no bytes" is accepted; "Cause 1 is left for one to seven bytes"
-unfoldable pub sheet_cause : List ℕ → ℕ
-sheet_cause [] = 0
+unfoldable pub sheet_cause : List ℕ → Option Cause
+sheet_cause [] = None
 sheet_cause (b ∷ s) = cause (b ∷ s)

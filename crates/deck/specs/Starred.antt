@@ -1,7 +1,8 @@
 -- The starred rounds 1 to 8 of document 01, "Rounds worked out". Where the document leaves N open it is 4096. Assumes nothing.
 use Rattle.std.specs.Prelude.{List, [], ◌∷◌}
-use Rattle.deck.specs.Calls.{no_tasks, task_list}
+use Rattle.deck.specs.Calls.{task_list}
 use Rattle.deck.specs.Listing.{text}
+use Rattle.deck.specs.Numbers.{no_tasks}
 use Rattle.deck.specs.Rounds.{Round, ask_cause, ask_assignment, ask_listing, ◌gives◌, searching, sheet, planned, none, spent, round6, crossing, row}
 
 abbrev pub starred : List Round

@@ -1,19 +1,22 @@
-// The planner's terms: the types that every call shares, and the type of each call's answer.
+// The planner's terms: the types that every call shares, and the type of each call's answer. A call that can be refused answers a
+// `Result` with the cause, and one that may find nothing an `Option` in it.
 // The definitions of specs/ speak of these same types, so that code and definitions have one vocabulary.
 #![tactic(auto)]
 
-pub mod causes;
+mod cause;
+
+pub use cause::Cause;
 
 // A carrier's number and a task's number both count from zero and are types of their own, so that neither stands for the
 // other (a and g in the literature).
-#[derive(Clone, Copy)]
+#[derive(Clone, Copy, Debug, PartialEq, Eq, PartialOrd, Ord)]
 pub struct Carrier(pub usize);
 
-#[derive(Clone, Copy)]
+#[derive(Clone, Copy, Debug, PartialEq, Eq, PartialOrd, Ord)]
 pub struct Task(pub usize);
 
 // A constraint is one of two kinds.
-#[derive(Clone, Copy)]
+#[derive(Clone, Copy, Debug, PartialEq, Eq)]
 pub enum Constraint {
     // The carrier is not on u at t.
     Place {
@@ -31,7 +34,7 @@ pub enum Constraint {
 }
 
 // A collision of the carriers i and j.
-#[derive(Clone, Copy)]
+#[derive(Clone, Copy, Debug, PartialEq, Eq)]
 pub enum Collision {
     // Both are on u at t.
     Place {
@@ -50,77 +53,51 @@ pub enum Collision {
     },
 }
 
+// A stretch of the sheet that a pair of the directory names.
+#[derive(Clone, Copy, Debug, PartialEq, Eq)]
+pub struct Stretch {
+    pub offset: usize,
+    pub size: usize,
+}
+
 // How many pairs a directory has at most: that of 12 tasks.
 pub const MOST_PAIRS: usize = 14;
 
-// What the sheet reader answers: the cause, 0 for an accepted sheet, with the header and the directory's pairs by value.
-#[derive(Clone, Copy)]
+// What the sheet reader finds in an accepted sheet: the header, and the directory's pairs, nothing past the last.
+#[derive(Clone, Copy, Debug, PartialEq, Eq)]
 pub struct Reading {
-    pub cause: u8,
     pub width: usize,
     pub height: usize,
     pub count: usize,
     pub horizon: usize,
     pub limit: usize,
-    pub offsets: [usize; MOST_PAIRS],
-    pub lengths: [usize; MOST_PAIRS],
+    pub pairs: [Stretch; MOST_PAIRS],
 }
 
-// What the single-path call answers: the finish of the path that was written, none, or a cause.
-#[derive(Clone, Copy)]
-pub enum PathAnswer {
-    Found(usize),
-    NoPath,
-    Refused(u8),
-}
-
-// What the least-assignment call finds: the sum, none, or a cause.
-#[derive(Clone, Copy)]
-pub enum AssignmentKind {
-    Least(usize),
-    NoAssignment,
-    Refused(u8),
-}
-
-// The least-assignment call's answer: the task of each carrier, and the dual prices of rows and columns.
-#[derive(Clone, Copy)]
-pub struct AssignmentAnswer {
-    pub kind: AssignmentKind,
+// A least assignment: the sum of its entries, the task of each carrier, and the dual prices of rows and columns.
+#[derive(Clone, Copy, Debug, PartialEq, Eq)]
+pub struct Assignment {
+    pub sum: usize,
     pub tasks: [u8; 12],
     pub rows: [i32; 12],
     pub columns: [i32; 12],
 }
 
-// What the first-collision call answers.
-#[derive(Clone, Copy)]
-pub enum CollisionAnswer {
-    Found(Collision),
-    NoCollision,
-    Refused(u8),
-}
-
-#[derive(Clone, Copy)]
-pub enum SearchKind {
-    Plan,
-    NoPlan,
-    Spent,
-    Refused(u8),
-}
-
-// What the search answers.
-#[derive(Clone, Copy)]
-pub struct SearchAnswer {
-    pub kind: SearchKind,
-    pub tasks: [u8; 12],
-    pub flowtime: usize,
-    pub nodes: usize,
-    pub bound: usize,
-}
-
-// What the plan check answers: yes with the flowtime, no, or a cause.
-#[derive(Clone, Copy)]
-pub enum CheckAnswer {
-    Yes(usize),
-    No,
-    Refused(u8),
+// What a search that is not refused comes to, with how many nodes it made: a plan, of which the bound is the flowtime; that there is
+// no plan; or that its nodes are spent, with a bound below which no plan's flowtime is.
+#[derive(Clone, Copy, Debug, PartialEq, Eq)]
+pub enum SearchAnswer {
+    Plan {
+        tasks: [u8; 12],
+        flowtime: usize,
+        nodes: usize,
+        bound: usize,
+    },
+    NoPlan {
+        nodes: usize,
+    },
+    Spent {
+        nodes: usize,
+        bound: usize,
+    },
 }

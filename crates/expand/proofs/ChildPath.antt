@@ -5,7 +5,7 @@ use mathlib.Core.Bool.{Bool, true, false, cond}
 use mathlib.Core.List.Memᴰ.{head as here}
 use mathlib.Core.List.Memᴰ.{tail as there}
 use mathlib.Core.List.{List, [], ◌∷◌, Memᴰ as Mem}
-use mathlib.Core.Option.{Option, none, some}
+use Rattle.std.specs.Prelude.{Option, None, Some}
 use native.Mathlib.Omega.{arith}
 use lib.ListN.{length, get_or, take, drop}
 use lib.Seq.{take_at}
@@ -129,7 +129,7 @@ module _ {s mask work bounds : List ℕ} {made latest n : ℕ} {i : Carrier} {c 
   own_task = task_of (problem d) (node_at d work n).tasks (bound_by c)
 
   -- the path is least under the child's constraints
-  child_under : (p : List ℕ) → child_path d work n c ≡ some p → IsLeast (problem d) (rules d) (bound_by c) own_task (c ∷ (node_at d work n).constraints) (some p)
+  child_under : (p : List ℕ) → child_path d work n c ≡ Some p → IsLeast (problem d) (rules d) (bound_by c) own_task (c ∷ (node_at d work n).constraints) (Some p)
   unfolding problem
   child_under p q =
       let short : d.horizon < barred = omega (arith, horizon_range s x.accepted) in
@@ -182,23 +182,23 @@ module _ {s mask work bounds : List ℕ} {made latest n : ℕ} {i : Carrier} {c 
         rw (be ∙ finish_read d work n d.limit made fits stored x.below record_room i.0 carrier_in, ← x.bound, task_is) later
 
 -- WHAT THE ANSWER SAYS of the path
-none_found : (d : Sheet) (j : Task) (o : Option (List ℕ)) (r : PathAnswer) → r ≡ path_found d j o → ((f : ℕ) → r ≡ Found f → ⊥) → o ≡ none
+none_found : (d : Sheet) (j : Task) (o : Option (List ℕ)) (r : PathAnswer) → r ≡ path_found d j o → ((f : ℕ) → r ≡ Found f → ⊥) → o ≡ None
 unfolding path_found
-none_found d j none r e k = refl
-none_found d j (some p) r e k = absurd (k (finish_of d j p) e)
+none_found d j None r e k = refl
+none_found d j (Some p) r e k = absurd (k (finish_of d j p) e)
 
-one_found : (d : Sheet) (j : Task) (o : Option (List ℕ)) (r : PathAnswer) (f : ℕ) → r ≡ path_found d j o → r ≡ Found f → (p : List ℕ) × (o ≡ some p) × (f ≡ finish_of d j p)
+one_found : (d : Sheet) (j : Task) (o : Option (List ℕ)) (r : PathAnswer) (f : ℕ) → r ≡ path_found d j o → r ≡ Found f → (p : List ℕ) × (o ≡ Some p) × (f ≡ finish_of d j p)
 unfolding path_found
-one_found d j none r f e g = absurd (let z : ◌≡◌ {A = ℕ} 0 1 = cc in omega arith)
-one_found d j (some p) r f e g = (p, refl, cc)
+one_found d j None r f e g = absurd (let z : ◌≡◌ {A = ℕ} 0 1 = cc in omega arith)
+one_found d j (Some p) r f e g = (p, refl, cc)
 
 -- THE CHILD, once its path is looked for
 module _ {s mask work bounds : List ℕ} {made latest n : ℕ} {i : Carrier} {c : Constraint} (x : Branch s mask work bounds made latest n i c) (after : List ℕ) (front : Front (read s).limit work after) where
   module _ (r : PathAnswer) (e : r ≡ path_found (read s) (child_task (read s) work n c) (child_path (read s) work n c)) where
-    pub no_path_lem : ((f : ℕ) → r ≡ Found f → ⊥) → child_path (read s) work n c ≡ none
+    pub no_path_lem : ((f : ℕ) → r ≡ Found f → ⊥) → child_path (read s) work n c ≡ None
     no_path_lem k = none_found (read s) (child_task (read s) work n c) (child_path (read s) work n c) r e k
 
-    pub a_path : (f : ℕ) → r ≡ Found f → (p : List ℕ) × (child_path (read s) work n c ≡ some p) × (f ≡ finish_of (read s) (child_task (read s) work n c) p)
+    pub a_path : (f : ℕ) → r ≡ Found f → (p : List ℕ) × (child_path (read s) work n c ≡ Some p) × (f ≡ finish_of (read s) (child_task (read s) work n c) p)
     a_path f g = one_found (read s) (child_task (read s) work n c) (child_path (read s) work n c) r f e g
 
   few : (read s).limit ≤ 4096
@@ -211,12 +211,12 @@ module _ {s mask work bounds : List ℕ} {made latest n : ℕ} {i : Carrier} {c 
   outcome bound st o = make_with (problem (read s)) (read s).limit bound (node_at (read s) work n) c o st
 
   -- without a path it is not made
-  pub not_made : child_path (read s) work n c ≡ none → (st : State (List ℕ) Constraint) (bound : ℕ) → Held (read s) work made latest st
+  pub not_made : child_path (read s) work n c ≡ None → (st : State (List ℕ) Constraint) (bound : ℕ) → Held (read s) work made latest st
       → Grew (read s) after bound (Made made latest) (make_child (problem (read s)) (read s).limit bound (node_at (read s) work n) c st)
   unfolding problem
   not_made q st bound h = (st, ap (outcome bound st) q, front_held (read s) few work after made latest front st h)
 
-  module _ (p : List ℕ) (q : child_path (read s) work n c ≡ some p) where
+  module _ (p : List ℕ) (q : child_path (read s) work n c ≡ Some p) where
     -- where all are made, the search is spent
     pub none_left : made ≡ (read s).limit → (st : State (List ℕ) Constraint) (bound : ℕ) → Held (read s) work made latest st
         → Grew (read s) after bound Spent (make_child (problem (read s)) (read s).limit bound (node_at (read s) work n) c st)

@@ -3,7 +3,7 @@ use Prim.Native.Nat.{ℕ, ◌+◌, ◌<◌, ◌≤◌}
 use mathlib.Core.Path.{◌≡◌, refl, sym, ap, subst, ◌∙◌}
 use mathlib.Core.Bool.{Bool, true, false}
 use mathlib.Core.List.{List, [], ◌∷◌}
-use mathlib.Core.Option.{Option, none, some}
+use Rattle.std.specs.Prelude.{Option, None, Some}
 use native.Mathlib.Omega.{arith}
 use lib.ListN.{length}
 use lib.Dec.{ltb}
@@ -38,10 +38,10 @@ module _ (w : Problem (List ℕ) Constraint) (limit bound : ℕ) where
   root_more true (a ∷ rest) s t e = add_more (ltb s.made limit) (root_of w a) s t e
 
   with_more : (n : Node (List ℕ) Constraint) (c : Constraint) (o : Option (List ℕ)) (s t : State (List ℕ) Constraint) → make_with w limit bound n c o s ≡ more t → s.made ≤ t.made
-  with_more n c none s t e =
+  with_more n c None s t e =
       let z : s.made ≡ t.made = cc in
       omega arith
-  with_more n c (some p) s t e = add_more (ltb s.made limit) (child_node w n c p) s t e
+  with_more n c (Some p) s t e = add_more (ltb s.made limit) (child_node w n c p) s t e
 
   child_more : (n : Node (List ℕ) Constraint) (c : Constraint) (s t : State (List ℕ) Constraint) → make_child w limit bound n c s ≡ more t → s.made ≤ t.made
   child_more n c = with_more n c (w.least (w.bound c) (task_of w n.tasks (w.bound c)) (c ∷ n.constraints))

@@ -6,7 +6,7 @@ use mathlib.Core.Logic.{⊎_elim}
 use mathlib.Core.Bool.{Bool, true, false, not, not-not}
 use mathlib.Core.List.Memᴰ.{not-nil}
 use mathlib.Core.List.{List, [], ◌∷◌, Memᴰ as Mem}
-use mathlib.Core.Option.{some}
+use Rattle.std.specs.Prelude.{Some}
 use native.Mathlib.Omega.{arith}
 use lib.ListN.{length, get_or-eq_default}
 use borrow.Author.Tests.{lt-ltb, le-ltb}
@@ -99,7 +99,7 @@ module _ {s mask table work bounds : List ℕ} (g : Given s mask table work boun
         inside : Mem slot (slots_at m work slots_asked.roots)
         inside = live_slot m work slots_asked.roots n j (subst (FirstSlot m work latest) e c (copied m table) st.rest slots_asked).0
 
-        first : Candidate m (copied m table) slot.part (some slot.first)
+        first : Candidate m (copied m table) slot.part (Some slot.first)
         first = subst (Candidate m (copied m table) slot.part) (slots_asked.parts.holds.right slot inside) (candidate_meant m (copied m table) slot.part)
 
         remains : Mem slot.first st.rest

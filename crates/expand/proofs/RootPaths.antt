@@ -4,7 +4,7 @@ use Prim.Native.Nat.{ℕ, ◌+◌, ◌-◌, ◌*◌, ◌<◌, ◌≤◌}
 use mathlib.Core.Path.{◌≡◌, refl, sym, ap, subst, ◌∙◌}
 use mathlib.Core.Logic.{◌≢◌}
 use mathlib.Core.List.{List, [], ◌∷◌, ◌++◌}
-use mathlib.Core.Option.{Option, none, some}
+use Rattle.std.specs.Prelude.{Option, None, Some}
 use native.Mathlib.Omega.{arith}
 use lib.ListN.{length, get_or, take, drop, replicate, get_or-append}
 use lib.Seq.{take_at}
@@ -102,7 +102,7 @@ module _ {d : Sheet} {mid after : List ℕ} {n : ℕ} {a : List ℕ} {i : ℕ} {
   path_keep k h = u.keys d.limit k B.within
 
   -- the next path is written
-  path_begun : Fits d → 512 * n + 512 ≤ length mid → i < d.count → least_path d (carrier i) (task (get_or a i 0)) [] ≡ some p → finish ≡ finish_of d (task (get_or a i 0)) p
+  path_begun : Fits d → 512 * n + 512 ≤ length mid → i < d.count → least_path d (carrier i) (task (get_or a i 0)) [] ≡ Some p → finish ≡ finish_of d (task (get_or a i 0)) p
       → Begun d after n a (i + 1) st
   path_begun f h b e q =
       record {
@@ -144,15 +144,15 @@ module _ {s mask table work bounds : List ℕ} {n : ℕ} (i : Carrier) {a : List
       ∙ table_at d i.0 (get_or a i.0 0) b low
 
   -- and there is one, since the assignment uses no barred entry
-  pub has_path : (p : List ℕ) × (least_path d i j [] ≡ some p)
+  pub has_path : (p : List ℕ) × (least_path d i j [] ≡ Some p)
   unfolding entry_of
   has_path = go (least_path d i j []) refl (subst (λ (e : ℕ). e ≢ barred) (table_at d i.0 (get_or a i.0 0) b low) (B.unbarred.1 i.0 b))
     where
-      go : (o : Option (List ℕ)) → least_path d i j [] ≡ o → entry_of d j o ≢ barred → (p : List ℕ) × (least_path d i j [] ≡ some p)
-      go none e ne = absurd (ne refl)
-      go (some p) e ne = (p, e)
+      go : (o : Option (List ℕ)) → least_path d i j [] ≡ o → entry_of d j o ≢ barred → (p : List ℕ) × (least_path d i j [] ≡ Some p)
+      go None e ne = absurd (ne refl)
+      go (Some p) e ne = (p, e)
 
-  finish_low : (p : List ℕ) → least_path d i j [] ≡ some p → finish_of d j p ≤ 255
+  finish_low : (p : List ℕ) → least_path d i j [] ≡ Some p → finish_of d j p ≤ 255
   finish_low p e =
       let f = accepted_fits s g.accepted in
       let m = subst (LeastMeant d i j []) e (least_path_meant d i j [] (f.starts i.0 b)) in
@@ -172,17 +172,17 @@ module _ {s mask table work bounds : List ℕ} {n : ℕ} (i : Carrier) {a : List
     pub root_bound : {x : ℕ} → x ≡ cell table i.0 k.0 → NoEarlier d i k (constraints_of []) x
     unfolding entry_of
     root_bound {x} e p h =
-        subst (λ (t : Task). x ≡ cell table i.0 t.0 → least_path d i t (constraints_of []) ≡ some p → x ≤ finish_of d t p) (sym is_task) at_own e h
+        subst (λ (t : Task). x ≡ cell table i.0 t.0 → least_path d i t (constraints_of []) ≡ Some p → x ≤ finish_of d t p) (sym is_task) at_own e h
       where
-        at_own : x ≡ cell table i.0 j.0 → least_path d i j (constraints_of []) ≡ some p → x ≤ finish_of d j p
+        at_own : x ≡ cell table i.0 j.0 → least_path d i j (constraints_of []) ≡ Some p → x ≤ finish_of d j p
         at_own q r =
-            let z : least_path d i j [] ≡ some p = rw none_bound at r in
+            let z : least_path d i j [] ≡ Some p = rw none_bound at r in
             omega (arith, q, own_entry ∙ ap (entry_of d j) z)
 
     abbrev p : List ℕ
     p = has_path.0
 
-    least_is : least_path d i k (constraints_of []) ≡ some p
+    least_is : least_path d i k (constraints_of []) ≡ Some p
     least_is = rw (none_bound, is_task) has_path.1
 
     -- the least path's call finds it

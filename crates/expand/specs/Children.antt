@@ -1,7 +1,7 @@
 -- The child of node n by one more constraint: what it is made of, and the task and the path of the carrier that the constraint binds.
 -- Assumes nothing.
 use Rattle.std.specs.Prelude.{ℕ, ◌<◌, ◌≤◌, ◌≡◌, List, ◌∷◌, length}
-use Rattle.std.proofs.Math.Option.{Option}
+use Rattle.std.specs.Prelude.{Option}
 use Rattle.deck.specs.Sheet.{Sheet, read, cause, carrier, task}
 use Rattle.deck.specs.Paths.{least_path}
 use Rattle.deck.specs.Search.{task_of}

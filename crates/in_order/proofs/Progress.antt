@@ -4,7 +4,7 @@ use mathlib.Core.Path.{◌≡◌, refl, sym, ap, subst, ◌∙◌}
 use mathlib.Core.Logic.{◌≢◌}
 use mathlib.Core.Bool.{Bool}
 use mathlib.Core.List.{List, [], ◌∷◌, ◌++◌, append_assoc, append-nil}
-use mathlib.Core.Option.{Option, none, some}
+use Rattle.std.specs.Prelude.{Option, None, Some}
 use native.Mathlib.Numerals.{add-one}
 use native.Mathlib.Omega.{arith}
 use lib.ListN.{length, take, drop, length-append, take-append-drop}
@@ -101,15 +101,15 @@ module _ (m : ℕ) (small : m ≤ 12) (table work : List ℕ) (made : ℕ) (list
       listing most (ap (take most) (P.order ∙ ap (λ (l : List (List ℕ)). P.done ++ l) e ∙ append-nil P.done) ∙ take_all most P.done (omega (arith, P.many)))
 
 -- no first assignment: none at all
-pub none_first : (m : ℕ) (table : List ℕ) → least_assignment m table ≡ none → assignments_in_order m table ≡ []
+pub none_first : (m : ℕ) (table : List ℕ) → least_assignment m table ≡ None → assignments_in_order m table ≡ []
 unfolding least_assignment
 none_first m table e = go (assignments_in_order m table) e
   where
     is : Option (List ℕ) → ℕ
-    is none = 1
-    is (some a) = 0
+    is None = 1
+    is (Some a) = 0
 
-    go : (l : List (List ℕ)) → head_of l ≡ none → l ≡ []
+    go : (l : List (List ℕ)) → head_of l ≡ None → l ≡ []
     go [] e = refl
     go (a ∷ l) e = let z : ◌≡◌ {A = ℕ} 0 1 = ap is e in absurd (omega arith)
 

@@ -4,7 +4,7 @@ use mathlib.Core.Path.{◌≡◌, refl, sym, ap, ◌∙◌, subst}
 use mathlib.Core.Logic.{◌⊎◌, inl, inr, ⊎_elim}
 use mathlib.Core.Bool.{Bool, true, false, cond}
 use mathlib.Core.List.{List, [], ◌∷◌}
-use mathlib.Core.Option.{Option, none, some}
+use Rattle.std.specs.Prelude.{Option, None, Some}
 use native.Mathlib.Nat.{eq-or-lt_of_le}
 use native.Mathlib.Omega.{arith}
 use lib.ListN.{length, replicate, length-replicate}
@@ -77,8 +77,8 @@ module _ (w : Parts) where
 
   -- the first of least finish, and none exactly if there is none
   abbrev pub FirstOfLeast : ℕ → Option (List ℕ) → Type 0
-  FirstOfLeast h none = (q : List ℕ) → ¬ Served h q
-  FirstOfLeast h (some p) =
+  FirstOfLeast h None = (q : List ℕ) → ¬ Served h q
+  FirstOfLeast h (Some p) =
       (q : List ℕ) × (p ≡ w.start ∷ q) × Served h q
       × ((r : List ℕ) → Served h r → (finish_at q < finish_at r) ⊎ ((finish_at q ≡ finish_at r) × Before (w.start ∷ q) (w.start ∷ r)))
 
@@ -140,8 +140,8 @@ module _ (w : Parts) (L : Laws w) (at_start : Settled w w.start w.fresh) (at_ste
 
   -- (3), (4) in the words of the finish
   pub by_finish : (h : ℕ) (o : Option (List ℕ)) → Right w h o → FirstOfLeast w h o
-  by_finish h none r = λ q v. r q (finish_at w q) (h - finish_at w q) (omega (arith, v.stays)) (served_at h q v (finish_at w q) (h - finish_at w q) refl (omega (arith, v.stays)))
-  by_finish h (some p) (q, n, m, e, i, a, least-of, first_of) =
+  by_finish h None r = λ q v. r q (finish_at w q) (h - finish_at w q) (omega (arith, v.stays)) (served_at h q v (finish_at w q) (h - finish_at w q) refl (omega (arith, v.stays)))
+  by_finish h (Some p) (q, n, m, e, i, a, least-of, first_of) =
       let v = at_served h q n m i a in
       let no_less : (r : List ℕ) → Served w h r → n ≤ finish_at w r
       = λ r y. least-of r (finish_at w r) (h - finish_at w r) (omega (arith, y.stays)) (served_at h r y (finish_at w r) (h - finish_at w r) refl (omega (arith, y.stays))) in

@@ -7,7 +7,7 @@ use mathlib.Core.Bool.{Bool, true, false, cond, ◌&&◌}
 use mathlib.Core.List.Memᴰ.{head as here}
 use mathlib.Core.List.Memᴰ.{tail as there}
 use mathlib.Core.List.{List, [], ◌∷◌, map, Memᴰ as Mem}
-use mathlib.Core.Option.{Option, none, some}
+use Rattle.std.specs.Prelude.{Option, None, Some}
 use native.Mathlib.Nat.{eq-or-lt_of_le, le_trans}
 use native.Mathlib.Omega.{arith}
 use lib.Dec.{T, eqb, leb, leb→le, le→leb, ltb→lt, lt→ltb}
@@ -196,13 +196,13 @@ module _ (d : Sheet) (i : Carrier) (j : Task) (cs : List Constraint) (start : T 
   time_can r l n m e c = l.first n (omega arith) ((meets_can n m e).test c)
 
   -- above the horizon: no path
-  pub no_time_none : (r : ℕ) → LeastTime d i j cs r → d.horizon < r → least_path d i j cs ≡ none
+  pub no_time_none : (r : ℕ) → LeastTime d i j cs r → d.horizon < r → least_path d i j cs ≡ None
   no_time_none r l h =
-      right_least d i j cs start timely none
+      right_least d i j cs start timely None
       (none_right w (sheet_laws d i j cs start) d.horizon (λ n m e c. omega (arith, time_can r l n m e c)))
 
   -- the path traced from the least time is the least path
-  pub time_path : (r : ℕ) → LeastTime d i j cs r → r ≤ d.horizon → least_path d i j cs ≡ some (path_at d i j cs (d.horizon - r) r)
+  pub time_path : (r : ℕ) → LeastTime d i j cs r → r ≤ d.horizon → least_path d i j cs ≡ Some (path_at d i j cs (d.horizon - r) r)
   unfolding path_at
   time_path r l h =
       let m : ℕ = d.horizon - r in
@@ -244,5 +244,5 @@ module _ (d : Sheet) (i : Carrier) (j : Task) (cs : List Constraint) (start : T 
       on_grid = ((free_meant d (start_of d i)).fact start).on_grid
 
       go : (o : Option (List ℕ)) → least_path d i j cs ≡ o → LeastMeant d i j cs o → {p : List ℕ} (f : ℕ) → PathUnder d i j cs p f → f ≤ n → b ≤ n
-      go none e k f u a = absurd (k _ f u)
-      go (some q) e k {p} f u a = ⊎_elim (λ z. omega (arith, h q e)) (λ z. omega (arith, h q e, z.0)) (k.first p f u)
+      go None e k f u a = absurd (k _ f u)
+      go (Some q) e k {p} f u a = ⊎_elim (λ z. omega (arith, h q e)) (λ z. omega (arith, h q e, z.0)) (k.first p f u)

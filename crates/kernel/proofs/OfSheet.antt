@@ -4,7 +4,7 @@ use mathlib.Core.Path.{◌≡◌, refl, sym, ap, ◌∙◌, subst}
 use mathlib.Core.Logic.{◌⊎◌, ⊎_elim, ◌≢◌}
 use mathlib.Core.Bool.{◌&&◌, not}
 use mathlib.Core.List.{List, [], ◌∷◌, Memᴰ as Mem}
-use mathlib.Core.Option.{Option, none, some}
+use Rattle.std.specs.Prelude.{Option, None, Some}
 use native.Mathlib.Nat.{not-suc-le-zero, le_refl}
 use native.Mathlib.Omega.{arith}
 use lib.ListN.{length, drop, drop_of_length-le}
@@ -245,8 +245,8 @@ module _ (d : Sheet) (i : Carrier) (j : Task) (cs : List Constraint) (start : T 
     right_least o r = go o (by_finish w sheet_laws settled_start settled_step d.horizon o r)
       where
         go : (o : Option (List ℕ)) → FirstOfLeast w d.horizon o → least_path d i j cs ≡ o
-        go none n = no_least_path d i j cs start_free.on_grid (λ p t h. let x = path_served p t h in n x.0 x.2)
-        go (some p) (q, e, v, f) =
+        go None n = no_least_path d i j cs start_free.on_grid (λ p t h. let x = path_served p t h in n x.0 x.2)
+        go (Some p) (q, e, v, f) =
             least_path_is d i j cs start_free.on_grid
             (subst (λ (z : List ℕ). LeastPath d i j cs z (finish_at w q)) (sym e)
             (record {

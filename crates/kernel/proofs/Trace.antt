@@ -3,7 +3,7 @@ use Prim.Native.Nat.{ℕ, zero, suc, ◌+◌, ◌≤◌, ◌<◌}
 use mathlib.Core.Path.{◌≡◌, refl, sym, subst}
 use mathlib.Core.Logic.{◌⊎◌, inl, inr}
 use mathlib.Core.List.{List, [], ◌∷◌}
-use mathlib.Core.Option.{Option, none, some}
+use Rattle.std.specs.Prelude.{Option, None, Some}
 use native.Mathlib.Nat.{eq-or-lt_of_le}
 use native.Mathlib.Omega.{arith}
 use lib.ListN.{replicate}
@@ -36,8 +36,8 @@ module _ (w : Parts) where
 
   -- p is the first walk of those that finish at the least time; none if none finishes
   abbrev pub Right : ℕ → Option (List ℕ) → Type 0
-  Right h none = (q : List ℕ) (n m : ℕ) → n + m ≡ h → ¬ At m n q
-  Right h (some p) =
+  Right h None = (q : List ℕ) (n m : ℕ) → n + m ≡ h → ¬ At m n q
+  Right h (Some p) =
       (q : List ℕ) × (n : ℕ) × (m : ℕ) × (p ≡ w.start ∷ q) × (n + m ≡ h) × At m n q
       × ((r : List ℕ) (a b : ℕ) → a + b ≡ h → At b a r → n ≤ a)
       × ((r : List ℕ) → At m n r → Before (w.start ∷ q) (w.start ∷ r))
@@ -114,7 +114,7 @@ module _ (w : Parts) (L : Laws w) where
 
   -- (4) from the least time, however it is found, the trace is the first walk of least finish
   pub traced_right : (h n m : ℕ) → n + m ≡ h → Can w m n → ((a b : ℕ) → a + b ≡ h → Can w b a → n ≤ a)
-      → Right w h (some (w.start ∷ trace w m n 0 w.start w.fresh))
+      → Right w h (Some (w.start ∷ trace w m n 0 w.start w.fresh))
   traced_right h n m e c l = (
     trace w m n 0 w.start w.fresh,
     n,
@@ -126,5 +126,5 @@ module _ (w : Parts) (L : Laws w) where
     λ r x. inr (refl, trace_first m n 0 w.start w.fresh r x.meets),
   )
 
-  pub none_right : (h : ℕ) → ((n m : ℕ) → n + m ≡ h → ¬ Can w m n) → Right w h none
+  pub none_right : (h : ℕ) → ((n m : ℕ) → n + m ≡ h → ¬ Can w m n) → Right w h None
   none_right h l = λ q n m e a. l n m e (at_can w m n q a)

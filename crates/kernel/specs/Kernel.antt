@@ -1,7 +1,7 @@
 -- The two passes as one function on layers: forward from the start with the goals, backward from the last goal with the goals
 -- reversed. Assumes nothing.
 use Rattle.std.specs.Prelude.{ℕ, zero, suc, ◌+◌, ◌≤◌, ◌<◌, ◌≡◌, Bool, cond, ◌&&◌, List, ◌∷◌, reverse, replicate, T, eqb, leb, ltb}
-use Rattle.std.proofs.Math.Option.{some}
+use Rattle.std.specs.Prelude.{Some}
 use Rattle.deck.specs.Sheet.{Sheet, free, start_of, goals_of, last_goal}
 use Rattle.deck.specs.Paths.{least_path, finish_of}
 use Rattle.deck.specs.declared.Carrier.{Carrier}
@@ -63,7 +63,7 @@ module _ (d : Sheet) (i : Carrier) (j : Task) (cs : List Constraint) where
 
   -- no path finishes before the bound
   abbrev pub NoEarlier : ℕ → Type 0
-  NoEarlier bound = (p : List ℕ) → least_path d i j cs ≡ some p → bound ≤ finish_of d j p
+  NoEarlier bound = (p : List ℕ) → least_path d i j cs ≡ Some p → bound ≤ finish_of d j p
 
   -- on u at t with the label k the task can be finished n steps later
   pub record OnTime (n t u k : ℕ) : Type 0 where

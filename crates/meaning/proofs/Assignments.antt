@@ -11,7 +11,7 @@ use mathlib.Core.List.Memᴰ.{head as here}
 use mathlib.Core.List.Memᴰ.{not-nil}
 use mathlib.Core.List.Memᴰ.{tail as there}
 use mathlib.Core.List.{List, [], ◌∷◌, map, Memᴰ as Mem}
-use mathlib.Core.Option.{Option, none, some}
+use Rattle.std.specs.Prelude.{Option, None, Some}
 use native.Mathlib.Nat.{not-suc-le-zero, le_of_suc-le-suc, suc_inj, eq-or-lt_of_le, le_refl}
 use native.Mathlib.Decide.{ℕ_discrete}
 use native.Mathlib.Omega.{arith}
@@ -243,8 +243,8 @@ in_order_once m table = sorted_once (Less m table) (not_less_itself m table) (as
 
 -- what the least assignment has to be
 abbrev pub Least : ℕ → List ℕ → Option (List ℕ) → Type 0
-Least m table none = AllBarred m table
-Least m table (some a) = Unbarred m table a × ((b : List ℕ) → Unbarred m table b → (b ≡ a) ⊎ Less m table a b)
+Least m table None = AllBarred m table
+Least m table (Some a) = Unbarred m table a × ((b : List ℕ) → Unbarred m table b → (b ≡ a) ⊎ Less m table a b)
 
 -- of the numbers below n one has the property, or none has
 find_below : {P : ℕ → Type 0} → ((i : ℕ) → Dec (P i)) → (n : ℕ) → ((i : ℕ) × (i < n) × P i) ⊎ ((i : ℕ) → i < n → ¬ P i)
@@ -262,23 +262,23 @@ unfolding least_assignment
 least_assignment_lem m table = go (least_assignment m table) (head_first (Less m table) (assignments_in_order m table) (in_order_rising m table))
   where
     go : (o : Option (List ℕ)) → Head (Less m table) (assignments_in_order m table) o → Least m table o
-    go none e = λ a h. ⊎_elim (λ f. f) (λ f. absurd (not-nil (rw e at ((in_order_meant m table a).1 (h, f)))))
+    go None e = λ a h. ⊎_elim (λ f. f) (λ f. absurd (not-nil (rw e at ((in_order_meant m table a).1 (h, f)))))
         (find_below (λ i. ℕ_discrete (entry_at m table i (a at i)) barred) m)
-    go (some a) h = ((in_order_meant m table a).0 h.0, λ b u. h.1 b ((in_order_meant m table b).1 u))
+    go (Some a) h = ((in_order_meant m table a).0 h.0, λ b u. h.1 b ((in_order_meant m table b).1 u))
 
 -- there is none exactly if every assignment uses a barred entry
-pub no_assignment_meant : (m : ℕ) (table : List ℕ) → (least_assignment m table ≡ none) ↔ AllBarred m table
+pub no_assignment_meant : (m : ℕ) (table : List ℕ) → (least_assignment m table ≡ None) ↔ AllBarred m table
 no_assignment_meant m table = (
   λ e. subst (Least m table) e (least_assignment_lem m table),
   λ h. go h (least_assignment m table) (least_assignment_lem m table),
 )
   where
-    go : AllBarred m table → (o : Option (List ℕ)) → Least m table o → o ≡ none
-    go h none l = refl
-    go h (some a) l = let b = h a l.0.0 in absurd (l.0.1 b.0 b.1 b.2)
+    go : AllBarred m table → (o : Option (List ℕ)) → Least m table o → o ≡ None
+    go h None l = refl
+    go h (Some a) l = let b = h a l.0.0 in absurd (l.0.1 b.0 b.1 b.2)
 
 -- the least assignment uses no barred entry, and each other that uses none comes after it
-pub least_assignment_meant : (m : ℕ) (table a : List ℕ) → least_assignment m table ≡ some a
+pub least_assignment_meant : (m : ℕ) (table a : List ℕ) → least_assignment m table ≡ Some a
     → Unbarred m table a × ((b : List ℕ) → Unbarred m table b → (b ≡ a) ⊎ Less m table a b)
 least_assignment_meant m table a e = subst (Least m table) e (least_assignment_lem m table)
 

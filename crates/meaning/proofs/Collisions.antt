@@ -9,7 +9,7 @@ use mathlib.Core.List.Memᴰ.{append_left as in_left}
 use mathlib.Core.List.Memᴰ.{append_right as in_right}
 use mathlib.Core.List.Memᴰ.{not-nil}
 use mathlib.Core.List.{List, [], ◌∷◌, map, Memᴰ as Mem}
-use mathlib.Core.Option.{Option, none, some}
+use Rattle.std.specs.Prelude.{Option, None, Some}
 use native.Mathlib.Omega.{arith}
 use lib.Dec.{T, ltb}
 use Rattle.deck.specs.Lists.{below, select, head_of}
@@ -193,8 +193,8 @@ module _ (m h : ℕ) (ps : List (List ℕ)) where
 
   -- what an answer to "which is the first collision" means
   abbrev pub FirstMeant : Option Collision → Type 0
-  FirstMeant none = (c : Collision) → ¬ Collided m h ps c
-  FirstMeant (some c) = FirstCollision m h ps c
+  FirstMeant None = (c : Collision) → ¬ Collided m h ps c
+  FirstMeant (Some c) = FirstCollision m h ps c
 
   -- the first collision is none exactly if nothing collides, and else the first by time, place before move, i and j
   pub first_collision_meant : FirstMeant (first_collision m h ps)
@@ -202,8 +202,8 @@ module _ (m h : ℕ) (ps : List (List ℕ)) where
   first_collision_meant = go (head_of (collisions m h ps)) (head_first Earlier (collisions m h ps) sorted_collisions)
     where
       go : (o : Option Collision) → Head Earlier (collisions m h ps) o → FirstMeant o
-      go none e = none_listed.0 e
-      go (some c) k = record { collided = (collided_mem c).0 k.0; first = λ e n. ⊎_elim (λ q. rw q (before_refl (rank c))) (λ r. r) (k.1 e ((collided_mem e).1 n)) }
+      go None e = none_listed.0 e
+      go (Some c) k = record { collided = (collided_mem c).0 k.0; first = λ e n. ⊎_elim (λ q. rw q (before_refl (rank c))) (λ r. r) (k.1 e ((collided_mem e).1 n)) }
 
   -- the rank determines the collision: it says the time and the carriers, and these say the places
   rank_same : (c e : Collision) → Collided m h ps c → Collided m h ps e → rank c ≡ rank e → c ≡ e
@@ -217,20 +217,20 @@ module _ (m h : ℕ) (ps : List (List ℕ)) where
       rank_same c e f.collided g.collided (before_antisym (rank c) (rank e) (f.first e g.collided) (g.first c f.collided))
 
   -- the first collision of the meaning is the one that the definition finds
-  pub first_collision_is : {c : Collision} → FirstCollision m h ps c → first_collision m h ps ≡ some c
+  pub first_collision_is : {c : Collision} → FirstCollision m h ps c → first_collision m h ps ≡ Some c
   first_collision_is {c} f = go (first_collision m h ps) first_collision_meant
     where
-      go : (o : Option Collision) → FirstMeant o → o ≡ some c
-      go none k = absurd (k c f.collided)
-      go (some e) k = ap some (first_collision_unique e c k f)
+      go : (o : Option Collision) → FirstMeant o → o ≡ Some c
+      go None k = absurd (k c f.collided)
+      go (Some e) k = ap Some (first_collision_unique e c k f)
 
   -- where nothing collides, the definition finds nothing
-  pub no_first_collision : ((c : Collision) → ¬ Collided m h ps c) → first_collision m h ps ≡ none
+  pub no_first_collision : ((c : Collision) → ¬ Collided m h ps c) → first_collision m h ps ≡ None
   no_first_collision n = go (first_collision m h ps) first_collision_meant
     where
-      go : (o : Option Collision) → FirstMeant o → o ≡ none
-      go none k = refl
-      go (some c) k = absurd (n c k.collided)
+      go : (o : Option Collision) → FirstMeant o → o ≡ None
+      go None k = refl
+      go (Some c) k = absurd (n c k.collided)
 
   -- the paths of a collision collide, and two paths that collide have a collision
   pub none_collided : ((c : Collision) → ¬ Collided m h ps c) ↔ ((i j : ℕ) → i < j → j < m → ¬ Collides h (path_of ps i) (path_of ps j))
@@ -250,5 +250,5 @@ module _ (m h : ℕ) (ps : List (List ℕ)) where
   no_collisions = (λ e. none_collided.0 (none_listed.0 e), λ n. none_listed.1 (none_collided.1 n))
 
   -- where there is no first collision, no two paths collide
-  pub no_first_collides : first_collision m h ps ≡ none → (i j : ℕ) → i < j → j < m → ¬ Collides h (path_of ps i) (path_of ps j)
+  pub no_first_collides : first_collision m h ps ≡ None → (i j : ℕ) → i < j → j < m → ¬ Collides h (path_of ps i) (path_of ps j)
   no_first_collides e = none_collided.0 (subst FirstMeant e first_collision_meant)

@@ -4,7 +4,7 @@ use Prim.Native.Nat.{ℕ, zero, suc, ◌+◌, ◌-◌, ◌≤◌, ◌<◌}
 use mathlib.Core.Path.{◌≡◌, refl, sym, ap, ◌∙◌}
 use mathlib.Core.Bool.{Bool, true, false}
 use mathlib.Core.List.{List, [], ◌∷◌}
-use mathlib.Core.Option.{Option, none, some}
+use Rattle.std.specs.Prelude.{Option, None, Some}
 use native.Mathlib.Omega.{arith}
 use lib.ListN.{length, length-append}
 use lib.Dec.{leb}
@@ -18,7 +18,7 @@ use Rattle.meaning.proofs.Lists.{Took, took}
 module _ {Path Constraint : Type 0} where
   -- what is asked of a selection rule
   abbrev pub TakesOne : (List (Node Path Constraint) → Option (Selected Path Constraint)) → Type 0
-  TakesOne choose = (l : List (Node Path Constraint)) (k : Selected Path Constraint) → choose l ≡ some k → length l ≡ suc (length k.others)
+  TakesOne choose = (l : List (Node Path Constraint)) (k : Selected Path Constraint) → choose l ≡ Some k → length l ≡ suc (length k.others)
 
   -- how many nodes may yet be taken at most: those that may yet be made, and those that are open
   abbrev pub remaining : ℕ → State Path Constraint → ℕ
@@ -31,12 +31,12 @@ module _ {Path Constraint : Type 0} where
 
 -- from n turns on the runs come to one and the same answer
 abbrev pub Settled : {A : Type 0} → (ℕ → Option A) → ℕ → Type 0
-Settled {A} r n = (a : A) × ((k : ℕ) → n ≤ k → r k ≡ some a)
+Settled {A} r n = (a : A) × ((k : ℕ) → n ≤ k → r k ≡ Some a)
 
 one_more : {A : Type 0} (r : ℕ → Option A) (n : ℕ) → Settled (λ k. r (suc k)) n → Settled r (suc n)
 one_more {A} r n (a, h) = (a, go)
   where
-    go : (k : ℕ) → suc n ≤ k → r k ≡ some a
+    go : (k : ℕ) → suc n ≤ k → r k ≡ Some a
     go zero le = absurd (omega arith)
     go (suc k) le = h k (omega arith)
 
@@ -53,12 +53,12 @@ module _ {Path Constraint : Type 0} (w : Problem Path Constraint) (limit : ℕ)
 
       expanded : (k : Selected Path Constraint) → length s.opened ≡ suc (length k.others) → (o : Option (Constraint × Constraint))
           → Fewer limit (remaining limit s) (expand w limit choose s k o)
-      expanded k e none = tt
-      expanded k e (some sides) = extended k e (to_make w k.node sides s.rest) _ refl
+      expanded k e None = tt
+      expanded k e (Some sides) = extended k e (to_make w k.node sides s.rest) _ refl
 
       chosen : (o : Option (Selected Path Constraint)) → choose s.opened ≡ o → Fewer limit (remaining limit s) (turn_with w limit choose s o)
-      chosen none e = tt
-      chosen (some k) e = expanded k (takes_one s.opened k e) (w.collision k.node.paths)
+      chosen None e = tt
+      chosen (Some k) e = expanded k (takes_one s.opened k e) (w.collision k.node.paths)
 
   -- with more turns than nodes may yet be taken there is an answer, and it does not depend on their number
   pub settled : (n : ℕ) (s : State Path Constraint) → remaining limit s < n → Settled (λ k. run w limit choose k s) n
@@ -81,11 +81,11 @@ module _ {Path Constraint : Type 0} (w : Problem Path Constraint) (limit : ℕ)
   more_turns n s o m = let r = enough s o m in r.1 (suc limit + n) (omega arith) ∙ sym (r.1 (suc limit) (omega arith))
 
   -- the search answers
-  pub answers : 1 ≤ limit → (a : Answer Path) × (searched w limit choose ≡ some a)
+  pub answers : 1 ≤ limit → (a : Answer Path) × (searched w limit choose ≡ Some a)
   unfolding searched
   answers h = from w.assignments
     where
-      from : (l : List (List ℕ)) → (a : Answer Path) × (search_from w limit choose l ≡ some a)
+      from : (l : List (List ℕ)) → (a : Answer Path) × (search_from w limit choose l ≡ Some a)
       from [] = (no_plan 0, refl)
       from (a ∷ rest) =
           let r = enough (record { opened = root_of w a ∷ []; made = 1; rest = rest }) (omega arith) h in
@@ -95,11 +95,11 @@ module _ {Path Constraint : Type 0} (w : Problem Path Constraint) (limit : ℕ)
 pub cheapest_takes_one : {Path Constraint : Type 0} → TakesOne (cheapest {Path = Path} {Constraint = Constraint})
 cheapest_takes_one {Path} {Constraint} l k e = go (take_least (λ n. n.cost) l) (took (λ n. n.cost) l) e
   where
-    go : (o : Option (Node Path Constraint × List (Node Path Constraint))) → Took (λ n. n.cost) l o → selected o ≡ some k → length l ≡ suc (length k.others)
-    go none t q = cc
-    go (some x) t q = let f = t.0.fewer in cc
+    go : (o : Option (Node Path Constraint × List (Node Path Constraint))) → Took (λ n. n.cost) l o → selected o ≡ Some k → length l ≡ suc (length k.others)
+    go None t q = cc
+    go (Some x) t q = let f = t.0.fewer in cc
 
 -- the plan of a sheet is what its search answers
-pub plan_answers : (d : Sheet) → 1 ≤ d.limit → searched (problem d) d.limit cheapest ≡ some (plan_for d)
+pub plan_answers : (d : Sheet) → 1 ≤ d.limit → searched (problem d) d.limit cheapest ≡ Some (plan_for d)
 unfolding plan_for
-plan_answers d h = let r = answers (problem d) d.limit cheapest cheapest_takes_one h in r.1 ∙ ap some (sym (ap answer_or r.1))
+plan_answers d h = let r = answers (problem d) d.limit cheapest cheapest_takes_one h in r.1 ∙ ap Some (sym (ap answer_or r.1))

@@ -9,7 +9,7 @@ use mathlib.Core.List.Memᴰ.{head as here}
 use mathlib.Core.List.Memᴰ.{not-nil}
 use mathlib.Core.List.Memᴰ.{tail as there}
 use mathlib.Core.List.{List, [], ◌∷◌, Memᴰ as Mem}
-use mathlib.Core.Option.{Option, none, some}
+use Rattle.std.specs.Prelude.{Option, None, Some}
 use native.Mathlib.Nat.{not-suc-le-zero, eq-or-lt_of_le, le_trans, le_refl, le_of_suc-le-suc}
 use native.Mathlib.Omega.{arith}
 use lib.ListN.{length, get_or}
@@ -48,8 +48,8 @@ module _ {A : Type 0} (key : A → ℕ) where
     where
       go : (o : Option (A × List A)) → Took key l o → Mem x (hand_out (first_in_order key n) o)
           → ((r : List A) → Mem x (first_in_order key n r) → Mem x r) → Mem x l
-      go none k m again = absurd (not-nil m)
-      go (some t) k m again =
+      go None k m again = absurd (not-nil m)
+      go (Some t) k m again =
           ⊎_elim (λ e. subst (λ (z : A). Mem z l) (sym e) k.0.taken) (λ u. k.0.among x (again t.1 u)) (cases_cons m)
 
   -- all of them, for an n that is large enough
@@ -60,8 +60,8 @@ module _ {A : Type 0} (key : A → ℕ) where
     where
       go : (o : Option (A × List A)) → Took key l o → ((r : List A) → length r ≤ n → Mem x r → Mem x (first_in_order key n r))
           → Mem x (hand_out (first_in_order key n) o)
-      go none k again = absurd (not-nil (rw k at m))
-      go (some t) k again =
+      go None k again = absurd (not-nil (rw k at m))
+      go (Some t) k again =
           ⊎_elim (λ e. here e) (λ u. there (again t.1 (omega (arith, k.0.fewer)) u)) (k.0.kept x m)
 
   pub first_length : (n : ℕ) (l : List A) → length l ≡ n → length (first_in_order key n l) ≡ n
@@ -70,8 +70,8 @@ module _ {A : Type 0} (key : A → ℕ) where
     where
       go : (o : Option (A × List A)) → Took key l o → ((r : List A) → length r ≡ n → length (first_in_order key n r) ≡ n)
           → length (hand_out (first_in_order key n) o) ≡ suc n
-      go none k again = absurd (omega (arith, ap length k))
-      go (some t) k again = ap suc (again t.1 (omega (arith, k.0.fewer)))
+      go None k again = absurd (omega (arith, ap length k))
+      go (Some t) k again = ap suc (again t.1 (omega (arith, k.0.fewer)))
 
   -- the list in order has the same elements
   pub in_order_mem : (l : List A) {x : A} → Mem x (in_order key l) ↔ Mem x l
@@ -83,8 +83,8 @@ module _ {A : Type 0} (key : A → ℕ) where
 
   module _ (R : A → A → Type 0) where
     abbrev After : Option (A × List A) → Type 0
-    After none = Unit {0}
-    After (some t) = ((y : A) → Mem y t.1 → ByKey R t.0 y) × Sorted R t.1
+    After None = Unit {0}
+    After (Some t) = ((y : A) → Mem y t.1 → ByKey R t.0 y) × Sorted R t.1
 
     -- what take_least leaves of a sorted list comes after what it takes, and is sorted
     take_after : (l : List A) → Sorted R l → After (take_least key l)
@@ -95,8 +95,8 @@ module _ {A : Type 0} (key : A → ℕ) where
         split y r (inl e) = inr (e, r)
         split y r (inr k) = inl k
 
-        pick : (t : A × List A) → Took key l (some t) → After (some t) → (b : Bool) → leb (key x) (key t.0) ≡ b
-            → After (cond b (some (x, l)) (some (t.0, x ∷ t.1)))
+        pick : (t : A × List A) → Took key l (Some t) → After (Some t) → (b : Bool) → leb (key x) (key t.0) ≡ b
+            → After (cond b (Some (x, l)) (Some (t.0, x ∷ t.1)))
         pick t k f true e = (λ y m. split y (h.0 y m) (eq-or-lt_of_le (le_trans (leb-true _ _ e) (k.1 y m))), h.1)
         pick t k f false e = (
           λ y m. ⊎_elim (λ q. inl (rw q (leb-false _ _ e))) (f.0 y) (cases_cons m),
@@ -104,8 +104,8 @@ module _ {A : Type 0} (key : A → ℕ) where
         )
 
         go : (o : Option (A × List A)) → Took key l o → After o → After (pick_least key x l o)
-        go none k f = (λ y m. absurd (not-nil m), tt)
-        go (some t) k f = pick t k f (leb (key x) (key t.0)) refl
+        go None k f = (λ y m. absurd (not-nil m), tt)
+        go (Some t) k f = pick t k f (leb (key x) (key t.0)) refl
 
     pub first_sorted : (n : ℕ) (l : List A) → Sorted R l → Sorted (ByKey R) (first_in_order key n l)
     first_sorted zero l h = tt
@@ -113,8 +113,8 @@ module _ {A : Type 0} (key : A → ℕ) where
       where
         go : (o : Option (A × List A)) → After o → ((r : List A) → Sorted R r → Sorted (ByKey R) (first_in_order key n r))
             → Sorted (ByKey R) (hand_out (first_in_order key n) o)
-        go none f again = tt
-        go (some t) f again = (λ y m. f.0 y (first_among n t.1 m), again t.1 f.1)
+        go None f again = tt
+        go (Some t) f again = (λ y m. f.0 y (first_among n t.1 m), again t.1 f.1)
 
     -- a list in strict order, put in the order of a key, is in the strict order by the key and then by that order
     pub in_order_sorted : (l : List A) → Sorted R l → Sorted (ByKey R) (in_order key l)

@@ -6,7 +6,7 @@ use mathlib.Core.Logic.{◌↔◌, ◌⊎◌, inl, inr}
 use mathlib.Core.Bool.{Bool, ◌&&◌}
 use mathlib.Core.List.Memᴰ.{not-nil}
 use mathlib.Core.List.{List, Memᴰ as Mem}
-use mathlib.Core.Option.{Option, none, some}
+use Rattle.std.specs.Prelude.{Option, None, Some}
 use native.Mathlib.Omega.{arith}
 use lib.Dec.{T}
 use Rattle.deck.specs.Lists.{all, take_least}
@@ -26,8 +26,8 @@ use Rattle.meaning.proofs.Paths.{path_finish, path_meant, keeps_all_meant}
 module _ (d : Sheet) (i : Carrier) (j : Task) (cs : List Constraint) where
   -- what the answer of the least path has to mean
   abbrev pub LeastMeant : Option (List ℕ) → Type 0
-  LeastMeant none = (p : List ℕ) (t : ℕ) → ¬ PathUnder d i j cs p t
-  LeastMeant (some p) = LeastPath d i j cs p (finish_of d j p)
+  LeastMeant None = (p : List ℕ) (t : ℕ) → ¬ PathUnder d i j cs p t
+  LeastMeant (Some p) = LeastPath d i j cs p (finish_of d j p)
 
   -- a path under the constraints has the finish that is computed
   computed : {p : List ℕ} {t : ℕ} → PathUnder d i j cs p t → PathUnder d i j cs p (finish_of d j p)
@@ -72,8 +72,8 @@ module _ (d : Sheet) (i : Carrier) (j : Task) (cs : List Constraint) where
         sorted = unfold paths_under in sorted_select Before _ (walks d d.horizon (start_of d i)) (walks_sorted d d.horizon (start_of d i))
 
         go : (o : Option (List ℕ × List (List ℕ))) → First Before (finish_of d j) (paths_under d i j cs) o → LeastMeant (taken o)
-        go none e = λ p t h. not-nil (rw e at ((paths_under_meant p).1 (computed h)))
-        go (some t) h =
+        go None e = λ p t h. not-nil (rw e at ((paths_under_meant p).1 (computed h)))
+        go (Some t) h =
             record {
               under = (paths_under_meant t.0).0 h.0;
               first = λ q u k.
@@ -82,17 +82,17 @@ module _ (d : Sheet) (i : Carrier) (j : Task) (cs : List Constraint) where
             }
 
     -- the least path is computed
-    pub least_path_is : {p : List ℕ} {t : ℕ} → LeastPath d i j cs p t → least_path d i j cs ≡ some p
+    pub least_path_is : {p : List ℕ} {t : ℕ} → LeastPath d i j cs p t → least_path d i j cs ≡ Some p
     least_path_is {p} {t} l = go (least_path d i j cs) least_path_meant
       where
-        go : (o : Option (List ℕ)) → LeastMeant o → o ≡ some p
-        go none n = absurd (n p t l.under)
-        go (some q) k = ap some (least_one k l)
+        go : (o : Option (List ℕ)) → LeastMeant o → o ≡ Some p
+        go None n = absurd (n p t l.under)
+        go (Some q) k = ap Some (least_one k l)
 
     -- where there is no path, none is computed
-    pub no_least_path : ((p : List ℕ) (t : ℕ) → ¬ PathUnder d i j cs p t) → least_path d i j cs ≡ none
+    pub no_least_path : ((p : List ℕ) (t : ℕ) → ¬ PathUnder d i j cs p t) → least_path d i j cs ≡ None
     no_least_path n = go (least_path d i j cs) least_path_meant
       where
-        go : (o : Option (List ℕ)) → LeastMeant o → o ≡ none
-        go none m = refl
-        go (some p) l = absurd (n p (finish_of d j p) l.under)
+        go : (o : Option (List ℕ)) → LeastMeant o → o ≡ None
+        go None m = refl
+        go (Some p) l = absurd (n p (finish_of d j p) l.under)

@@ -4,7 +4,7 @@ use Prim.Native.Nat.{ℕ, zero, suc, ◌+◌, ◌≤◌}
 use mathlib.Core.Path.{◌≡◌, refl, sym, ap, ◌∙◌}
 use mathlib.Core.Bool.{Bool, true, false}
 use mathlib.Core.List.{List, [], ◌∷◌, ◌++◌, append_assoc, append-nil}
-use mathlib.Core.Option.{Option, none, some}
+use Rattle.std.specs.Prelude.{Option, None, Some}
 use native.Mathlib.Nat.{add-zero}
 use native.Mathlib.Omega.{arith}
 use lib.ListN.{length}
@@ -71,8 +71,8 @@ module _ {Path Constraint : Type 0} (w : Problem Path Constraint) (limit bound :
   makes_root true (a ∷ rest) s = sym (then_nothing (make limit bound (root_of w a) s))
 
   makes_with : (n : Node Path Constraint) (c : Constraint) (o : Option Path) → Makes limit bound (make_with w limit bound n c o) (child_with w n c o)
-  makes_with n c none s = refl
-  makes_with n c (some p) s = sym (then_nothing (make limit bound (child_node w n c p) s))
+  makes_with n c None s = refl
+  makes_with n c (Some p) s = sym (then_nothing (make limit bound (child_node w n c p) s))
 
   makes_child : (n : Node Path Constraint) (c : Constraint) → Makes limit bound (make_child w limit bound n c) (child w n c)
   makes_child n c = makes_with n c (w.least (w.bound c) (task_of w n.tasks (w.bound c)) (c ∷ n.constraints))
@@ -97,7 +97,7 @@ module _ {Path Constraint : Type 0} (w : Problem Path Constraint) (limit : ℕ)
 
   -- to expand a node by making the new nodes one at a time comes to what the definition does
   pub one_at_a_time : (s : State Path Constraint) (k : Selected Path Constraint) (sides : Constraint × Constraint) → s.made ≤ limit
-      → make_each w limit k.bound k.node sides s.rest (without s k) ≡ expand w limit choose s k (some sides)
+      → make_each w limit k.bound k.node sides s.rest (without s k) ≡ expand w limit choose s k (Some sides)
   one_at_a_time s k sides le =
       let new = to_make w k.node sides s.rest in
       makes_each w limit k.bound k.node sides s.rest (without s k)
@@ -106,28 +106,28 @@ module _ {Path Constraint : Type 0} (w : Problem Path Constraint) (limit : ℕ)
 
   -- the search with the nodes made one at a time
   abbrev pub expand_each : State Path Constraint → Selected Path Constraint → Option (Constraint × Constraint) → Turn Path Constraint
-  expand_each s k none = done (plan k.node.tasks k.node.paths k.node.cost s.made k.bound)
-  expand_each s k (some sides) = make_each w limit k.bound k.node sides s.rest (without s k)
+  expand_each s k None = done (plan k.node.tasks k.node.paths k.node.cost s.made k.bound)
+  expand_each s k (Some sides) = make_each w limit k.bound k.node sides s.rest (without s k)
 
   abbrev pub turn_each_with : State Path Constraint → Option (Selected Path Constraint) → Turn Path Constraint
-  turn_each_with s none = done (no_plan s.made)
-  turn_each_with s (some k) = expand_each s k (w.collision k.node.paths)
+  turn_each_with s None = done (no_plan s.made)
+  turn_each_with s (Some k) = expand_each s k (w.collision k.node.paths)
 
   abbrev pub run_each : ℕ → State Path Constraint → Option (Answer Path)
-  run_each zero s = none
+  run_each zero s = None
   run_each (suc n) s = onward w limit choose (run_each n) (turn_each_with s (choose s.opened))
 
   abbrev pub search_each_from : List (List ℕ) → Option (Answer Path)
-  search_each_from [] = some (no_plan 0)
+  search_each_from [] = Some (no_plan 0)
   search_each_from (a ∷ rest) = run_each (suc limit) (record { opened = root_of w a ∷ []; made = 1; rest = rest })
 
   expand_same : (s : State Path Constraint) (k : Selected Path Constraint) (o : Option (Constraint × Constraint)) → s.made ≤ limit → expand_each s k o ≡ expand w limit choose s k o
-  expand_same s k none le = refl
-  expand_same s k (some sides) le = one_at_a_time s k sides le
+  expand_same s k None le = refl
+  expand_same s k (Some sides) le = one_at_a_time s k sides le
 
   turn_same : (s : State Path Constraint) (o : Option (Selected Path Constraint)) → s.made ≤ limit → turn_each_with s o ≡ turn_with w limit choose s o
-  turn_same s none le = refl
-  turn_same s (some k) le = expand_same s k (w.collision k.node.paths) le
+  turn_same s None le = refl
+  turn_same s (Some k) le = expand_same s k (w.collision k.node.paths) le
 
   -- no more nodes are made than the limit
   abbrev Within : Turn Path Constraint → Type 0
@@ -140,12 +140,12 @@ module _ {Path Constraint : Type 0} (w : Problem Path Constraint) (limit : ℕ)
   extend_within s k new false e = tt
 
   expand_within : (s : State Path Constraint) (k : Selected Path Constraint) (o : Option (Constraint × Constraint)) → Within (expand w limit choose s k o)
-  expand_within s k none = tt
-  expand_within s k (some sides) = extend_within s k (to_make w k.node sides s.rest) _ refl
+  expand_within s k None = tt
+  expand_within s k (Some sides) = extend_within s k (to_make w k.node sides s.rest) _ refl
 
   turn_within : (s : State Path Constraint) (o : Option (Selected Path Constraint)) → Within (turn_with w limit choose s o)
-  turn_within s none = tt
-  turn_within s (some k) = expand_within s k (w.collision k.node.paths)
+  turn_within s None = tt
+  turn_within s (Some k) = expand_within s k (w.collision k.node.paths)
 
   run_same : (n : ℕ) (s : State Path Constraint) → s.made ≤ limit → run_each n s ≡ run w limit choose n s
   run_same zero s le = refl

@@ -11,7 +11,7 @@ use mathlib.Core.List.Memᴰ.{head as here}
 use mathlib.Core.List.Memᴰ.{not-nil}
 use mathlib.Core.List.Memᴰ.{tail as there}
 use mathlib.Core.List.{List, [], ◌∷◌, ◌++◌, map, append-nil, append_assoc, Memᴰ as Mem}
-use mathlib.Core.Option.{Option, none, some}
+use Rattle.std.specs.Prelude.{Option, None, Some}
 use native.Mathlib.Nat.{not-suc-le-zero, eq-or-lt_of_le, le_trans, le_refl, le_of_lt, le_of_suc-le-suc, suc-mul, mul-le-mul_right}
 use native.Mathlib.Omega.{arith}
 use lib.ListN.{length, length-map, get_or, take, drop, replicate, get_or-append}
@@ -166,8 +166,8 @@ module _ {A : Type 0} (R : A → A → Type 0) where
 
   -- the head of a sorted list stands in the relation to each other element
   abbrev pub Head : List A → Option A → Type 0
-  Head l none = l ≡ []
-  Head l (some x) = Mem x l × ((y : A) → Mem y l → (y ≡ x) ⊎ R x y)
+  Head l None = l ≡ []
+  Head l (Some x) = Mem x l × ((y : A) → Mem y l → (y ≡ x) ⊎ R x y)
 
   pub head_first : (l : List A) → Sorted R l → Head l (head_of l)
   head_first [] h = refl
@@ -195,8 +195,8 @@ sorted_each R S f s c (x ∷ l) h =
 -- What take_least takes stands in the list; each element has a greater key, or the same and comes later; nothing is taken from the empty list alone
 module _ {A : Type 0} (R : A → A → Type 0) (key : A → ℕ) where
   abbrev pub First : List A → Option (A × List A) → Type 0
-  First l none = l ≡ []
-  First l (some t) = Mem t.0 l × ((x : A) → Mem x l → (key t.0 < key x) ⊎ ((key t.0 ≡ key x) × R t.0 x))
+  First l None = l ≡ []
+  First l (Some t) = Mem t.0 l × ((x : A) → Mem x l → (key t.0 < key x) ⊎ ((key t.0 ≡ key x) × R t.0 x))
 
   pub take_first : ((x : A) → R x x) → (l : List A) → Sorted R l → First l (take_least key l)
   take_first R-refl [] h = refl
@@ -213,7 +213,7 @@ module _ {A : Type 0} (R : A → A → Type 0) (key : A → ℕ) where
       no_less z y (inl g) = le_of_lt g
       no_less z y (inr g) = rw g.0 (le_refl (key y))
 
-      pick : (t : A × List A) → First l (some t) → (b : Bool) → leb (key x) (key t.0) ≡ b → First (x ∷ l) (cond b (some (x, l)) (some (t.0, x ∷ t.1)))
+      pick : (t : A × List A) → First l (Some t) → (b : Bool) → leb (key x) (key t.0) ≡ b → First (x ∷ l) (cond b (Some (x, l)) (Some (t.0, x ∷ t.1)))
       pick t k true e = (
         here refl,
         λ y m. ⊎_elim (same y)
@@ -223,8 +223,8 @@ module _ {A : Type 0} (R : A → A → Type 0) (key : A → ℕ) where
       pick t k false e = (there k.0, λ y m. ⊎_elim (λ q. inl (rw q (leb-false _ _ e))) (k.1 y) (cases_cons m))
 
       go : (o : Option (A × List A)) → First l o → First (x ∷ l) (pick_least key x l o)
-      go none e = (here refl, λ y m. ⊎_elim (same y) (λ n. absurd (not-nil (rw e at n))) (cases_cons m))
-      go (some t) k = pick t k (leb (key x) (key t.0)) refl
+      go None e = (here refl, λ y m. ⊎_elim (same y) (λ n. absurd (not-nil (rw e at n))) (cases_cons m))
+      go (Some t) k = pick t k (leb (key x) (key t.0)) refl
 
 -- What take_least leaves
 pub record Taken {A : Type 0} (l : List A) (x : A) (r : List A) : Type 0 where
@@ -235,8 +235,8 @@ pub record Taken {A : Type 0} (l : List A) (x : A) (r : List A) : Type 0 where
 
 module _ {A : Type 0} (key : A → ℕ) where
   abbrev pub Took : List A → Option (A × List A) → Type 0
-  Took l none = l ≡ []
-  Took l (some t) = Taken l t.0 t.1 × ((x : A) → Mem x l → key t.0 ≤ key x)
+  Took l None = l ≡ []
+  Took l (Some t) = Taken l t.0 t.1 × ((x : A) → Mem x l → key t.0 ≤ key x)
 
   pub took : (l : List A) → Took l (take_least key l)
   took [] = refl
@@ -245,7 +245,7 @@ module _ {A : Type 0} (key : A → ℕ) where
       self : (y : A) → y ≡ x → key x ≤ key y
       self y e = rw e (le_refl (key x))
 
-      by_key : (t : A × List A) → Took l (some t) → (b : Bool) → leb (key x) (key t.0) ≡ b → Took (x ∷ l) (cond b (some (x, l)) (some (t.0, x ∷ t.1)))
+      by_key : (t : A × List A) → Took l (Some t) → (b : Bool) → leb (key x) (key t.0) ≡ b → Took (x ∷ l) (cond b (Some (x, l)) (Some (t.0, x ∷ t.1)))
       by_key t k true e = (
         record { taken = here refl; kept = λ y m. cases_cons m; among = λ y m. there m; fewer = refl },
         λ y m. ⊎_elim (self y) (λ n. le_trans (leb-true _ _ e) (k.1 y n)) (cases_cons m),
@@ -261,8 +261,8 @@ module _ {A : Type 0} (key : A → ℕ) where
       )
 
       go : (o : Option (A × List A)) → Took l o → Took (x ∷ l) (pick_least key x l o)
-      go none e = (
+      go None e = (
         record { taken = here refl; kept = λ y m. ⊎_elim (λ q. inl q) (λ n. absurd (not-nil (rw e at n))) (cases_cons m); among = λ y m. absurd (not-nil m); fewer = rw e },
         λ y m. ⊎_elim (self y) (λ n. absurd (not-nil (rw e at n))) (cases_cons m),
       )
-      go (some t) k = by_key t k (leb (key x) (key t.0)) refl
+      go (Some t) k = by_key t k (leb (key x) (key t.0)) refl

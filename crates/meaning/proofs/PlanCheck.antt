@@ -4,7 +4,7 @@ use mathlib.Core.Path.{◌≡◌, refl, sym, ap, ◌∙◌, subst}
 use mathlib.Core.Logic.{◌↔◌}
 use mathlib.Core.Bool.{Bool, true, false, cond}
 use mathlib.Core.List.{List, [], ◌∷◌}
-use mathlib.Core.Option.{none, some}
+use Rattle.std.specs.Prelude.{None, Some}
 use native.Mathlib.Nat.{not-suc-le-zero}
 use native.Mathlib.Omega.{arith}
 use lib.ListN.{length, get_or, take, drop, length-drop}
@@ -49,8 +49,8 @@ rest_meant m l =
     )
 
 -- some is chosen exactly where the test passes
-chosen : {A : Type 0} {b : Bool} {P : Type 0} {x y : A} → Says b P → (cond b (some x) none ≡ some y) ↔ (P × (x ≡ y))
-chosen {b = true} s = (λ e. (s.fact tt, cc), λ h. ap some h.1)
+chosen : {A : Type 0} {b : Bool} {P : Type 0} {x y : A} → Says b P → (cond b (Some x) None ≡ Some y) ↔ (P × (x ≡ y))
+chosen {b = true} s = (λ e. (s.fact tt, cc), λ h. ap Some h.1)
 chosen {b = false} s = (λ e. let z : ◌≡◌ {A = ℕ} 0 1 = cc in absurd (omega arith), λ h. absurd (s.test h.0))
 
 module _ (d : Sheet) where
@@ -98,7 +98,7 @@ module _ (d : Sheet) where
 
   -- the plan check says yes, with the flowtime, exactly for a plan
   pub plan_check_meant : (tasks : List ℕ) (ps : List (List ℕ)) (f : ℕ)
-      → (plan_check d tasks ps ≡ some f)
+      → (plan_check d tasks ps ≡ Some f)
       ↔ (((k : ℕ) → d.count ≤ k → k < length tasks → get_or tasks k 0 ≡ 255) × ((fs : List ℕ) × Plan d (take d.count tasks) ps fs × (sum fs ≡ f)))
   unfolding plan_check
   plan_check_meant tasks ps f =

@@ -1,7 +1,7 @@
 -- The nodes of an expansion made one at a time, as document 01 says it: each only where fewer than N are made. It comes to the one
 -- test that the definition of the search makes of all of them (proofs/Limit). Assumes nothing.
 use Rattle.std.specs.Prelude.{ℕ, ◌+◌, Bool, true, false, List, [], ◌∷◌, ◌++◌, length, ltb}
-use Rattle.std.proofs.Math.Option.{Option, none, some}
+use Rattle.std.specs.Prelude.{Option, None, Some}
 use Rattle.deck.specs.Search.{Problem, Node, State, Turn, done, more, spent, task_of, root_of, child_node}
 
 module _ {Path Constraint : Type 0} where
@@ -32,8 +32,8 @@ module _ {Path Constraint : Type 0} (w : Problem Path Constraint) (limit bound :
 
   -- "A child without a path is not made"
   abbrev pub make_with : Node Path Constraint → Constraint → Option Path → State Path Constraint → Turn Path Constraint
-  make_with n c none s = more s
-  make_with n c (some p) s = make limit bound (child_node w n c p) s
+  make_with n c None s = more s
+  make_with n c (Some p) s = make limit bound (child_node w n c p) s
 
   -- the child of n by one more constraint
   abbrev pub make_child : Node Path Constraint → Constraint → State Path Constraint → Turn Path Constraint

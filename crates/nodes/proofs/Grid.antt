@@ -4,7 +4,7 @@ use mathlib.Core.Path.{◌≡◌, refl, sym, ◌∙◌, ap, subst}
 use mathlib.Core.Logic.{inl, inr}
 use mathlib.Core.Bool.{Bool, true, false, cond, ◌&&◌}
 use mathlib.Core.List.{List, [], ◌∷◌, Memᴰ as Mem}
-use mathlib.Core.Option.{Option, none, some}
+use Rattle.std.specs.Prelude.{Option, None, Some}
 use Prim.Native.Nat.{ℕ, zero, suc, ◌+◌, ◌*◌, ◌/◌, ◌%◌, ◌<◌, ◌≤◌}
 use native.Mathlib.Nat.{div-add-mod', suc-mul}
 use native.Mathlib.Numerals.{add-one}
@@ -88,7 +88,7 @@ module _ (d : Sheet) (f : Fits d) (i : ℕ) (b : i < d.count) (p : List ℕ) (m 
   read_back = round_trip d.width d.horizon (start_of d (carrier i)) p f.width (omega (arith, f.horizon)) grid_walk
 
 -- a least path is a walk
-pub least_walk : (d : Sheet) (i : Carrier) (j : Task) (cs : List Constraint) (p : List ℕ) → least_path d i j cs ≡ some p → Mem p (walks d d.horizon (start_of d i))
+pub least_walk : (d : Sheet) (i : Carrier) (j : Task) (cs : List Constraint) (p : List ℕ) → least_path d i j cs ≡ Some p → Mem p (walks d d.horizon (start_of d i))
 unfolding least_path paths_under
 least_walk d i j cs p e =
     go (take_least (finish_of d j) (select test (walks d d.horizon (start_of d i)))) (took (finish_of d j) (select test (walks d d.horizon (start_of d i)))) e
@@ -96,9 +96,9 @@ least_walk d i j cs p e =
     test : List ℕ → Bool
     test q = serves d j q && all (keeps i q) cs
 
-    go : (o : Option (List ℕ × List (List ℕ))) → Took (finish_of d j) (select test (walks d d.horizon (start_of d i))) o → taken o ≡ some p → Mem p (walks d d.horizon (start_of d i))
-    go none t q = absurd (let z : ◌≡◌ {A = ℕ} 0 1 = cc in omega arith)
-    go (some t) k q =
+    go : (o : Option (List ℕ × List (List ℕ))) → Took (finish_of d j) (select test (walks d d.horizon (start_of d i))) o → taken o ≡ Some p → Mem p (walks d d.horizon (start_of d i))
+    go None t q = absurd (let z : ◌≡◌ {A = ℕ} 0 1 = cc in omega arith)
+    go (Some t) k q =
         let z : t.0 ≡ p = cc in
         subst (λ (x : List ℕ). Mem x (walks d d.horizon (start_of d i))) z (mem_select test (walks d d.horizon (start_of d i)) k.0.taken).0
 

@@ -2,7 +2,7 @@
 use mathlib.Core.Path.{◌≡◌, refl, sym, ◌∙◌, ap, ap₂, subst}
 use mathlib.Core.Bool.{Bool, true, false}
 use mathlib.Core.List.{List, [], ◌∷◌, Memᴰ as Mem}
-use mathlib.Core.Option.{some}
+use Rattle.std.specs.Prelude.{Some}
 use Prim.Native.Nat.{ℕ, ◌+◌, ◌*◌, ◌-◌, ◌<◌, ◌≤◌, ◌%◌}
 use native.Mathlib.Nat.{zero-add}
 use native.Mathlib.Numerals.{add-one}
@@ -169,7 +169,7 @@ module _ (d : Sheet) where
 
   module _ (before after : List ℕ) (n : ℕ) (a : List ℕ) (i t : ℕ) (p : List ℕ) (f : Fits d) (h : 512 * n + 512 ≤ length before) (b : i < d.count)
       (u : Wrote before after n (with_path (fields_at before n) i t (pack_of d.width d.horizon p)))
-      (e : least_path d (carrier i) (task (get_or a i 0)) [] ≡ some p) (q : t ≡ finish_of d (task (get_or a i 0)) p) (r : RootSoFar d before n a i) where
+      (e : least_path d (carrier i) (task (get_or a i 0)) [] ≡ Some p) (q : t ≡ finish_of d (task (get_or a i 0)) p) (r : RootSoFar d before n a i) where
     ways_set : PathSet (fields_at before n) (fields_at after n) i t (pack_of d.width d.horizon p)
     ways_set = rw u.here (path_set before n i t (pack_of d.width d.horizon p))
 
@@ -205,7 +205,7 @@ module _ (d : Sheet) where
           zeros = λ k x. finish_other ways_set few_roots three seven packs k (λ z. omega arith) ∙ r.zeros k (omega arith);
         }
       where
-        least : (k : ℕ) → Dec (k ≡ i) → k < i + 1 → least_path d (carrier k) (task (get_or a k 0)) [] ≡ some (stored_path d (fields_at after n) k)
+        least : (k : ℕ) → Dec (k ≡ i) → k < i + 1 → least_path d (carrier k) (task (get_or a k 0)) [] ≡ Some (stored_path d (fields_at after n) k)
         least k (yes z) x = rw (z, at_i) e
         least k (no z) x = rw (at_k k z) (r.least k (omega arith))
 

@@ -3,7 +3,7 @@ use mathlib.Core.Path.{◌≡◌, refl, sym, ◌∙◌, ap}
 use mathlib.Core.Logic.{◌⊎◌, inl, inr, ⊎_elim}
 use mathlib.Core.Bool.{Bool, true, false}
 use mathlib.Core.List.{List, [], map}
-use mathlib.Core.Option.{some}
+use Rattle.std.specs.Prelude.{Some}
 use Prim.Native.Nat.{ℕ, ◌+◌, ◌*◌, ◌<◌, ◌≤◌, min}
 use native.Mathlib.Omega.{arith}
 use lib.Dec.{eqb, ltb}
@@ -96,10 +96,10 @@ module _ (d : Sheet) (limit : ℕ) (work : List ℕ) (made : ℕ) (f : Fits d) (
           map_select_same (node_at d after) (node_at d work) (is_open limit after) 0 made
           (λ k x y. node_same s after (λ j b. key_record work limit n j closed_key (omega arith) (omega arith)) k (omega arith))
 
-      took : take_least (λ x. x.cost) (opened_at d limit work made) ≡ some (node_at d work n, opened_at d limit after made)
+      took : take_least (λ x. x.cost) (opened_at d limit work made) ≡ Some (node_at d work n, opened_at d limit after made)
       took =
           take_map (node_at d work) (λ x. x.cost) (open_numbers limit work made)
           ∙ ap (mapped (node_at d work))
           (took_first (λ j. (node_at d work j).cost) (is_open limit work) (is_open limit after) n opened closed others 0 made (omega arith) (omega arith)
           (λ j x y o. no_less j (omega arith) o) (λ j x y o. before j y o))
-          ∙ ap (λ (r : List (Node (List ℕ) Constraint)). some (node_at d work n, r)) (sym nodes)
+          ∙ ap (λ (r : List (Node (List ℕ) Constraint)). Some (node_at d work n, r)) (sym nodes)

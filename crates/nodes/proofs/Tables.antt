@@ -2,7 +2,7 @@
 use mathlib.Core.Path.{◌≡◌, refl, ◌∙◌, ap}
 use mathlib.Core.Bool.{Bool, true, false, cond}
 use mathlib.Core.List.{List, [], ◌∷◌, ◌++◌, map, Memᴰ as Mem}
-use mathlib.Core.Option.{Option, none, some}
+use Rattle.std.specs.Prelude.{Option, None, Some}
 use Prim.Native.Nat.{ℕ, zero, suc, ◌+◌, ◌*◌, ◌<◌, ◌≤◌}
 use native.Mathlib.Nat.{add-zero}
 use native.Mathlib.Decide.{ℕ_discrete}
@@ -90,45 +90,45 @@ sum_table (x ∷ l) f k (suc m) h e z =
 -- THE CHOICE: the first of least key among the open numbers
 module _ {A B : Type 0} where
   abbrev pub mapped : (A → B) → Option (A × List A) → Option (B × List B)
-  mapped f none = none
-  mapped f (some t) = some (f t.0, map f t.1)
+  mapped f None = None
+  mapped f (Some t) = Some (f t.0, map f t.1)
 
   pub take_map : (f : A → B) (key : B → ℕ) (l : List A) → take_least key (map f l) ≡ mapped f (take_least (λ x. key (f x)) l)
   take_map f key [] = refl
   take_map f key (x ∷ l) = rw (take_map f key l) (go (take_least (λ y. key (f y)) l))
     where
       pick : (t : A × List A) (b : Bool)
-          → ◌≡◌ {A = Option (B × List B)} (cond b (some (f x, map f l)) (some (f t.0, f x ∷ map f t.1))) (mapped f (cond b (some (x, l)) (some (t.0, x ∷ t.1))))
+          → ◌≡◌ {A = Option (B × List B)} (cond b (Some (f x, map f l)) (Some (f t.0, f x ∷ map f t.1))) (mapped f (cond b (Some (x, l)) (Some (t.0, x ∷ t.1))))
       pick t true = refl
       pick t false = refl
 
       go : (o : Option (A × List A)) → pick_least key (f x) (map f l) (mapped f o) ≡ mapped f (pick_least (λ y. key (f y)) x l o)
-      go none = refl
-      go (some t) = pick t (leb (key (f x)) (key (f t.0)))
+      go None = refl
+      go (Some t) = pick t (leb (key (f x)) (key (f t.0)))
 
 module _ (key : ℕ → ℕ) (open? shut? : ℕ → Bool) (n : ℕ) (o : open? n ≡ true) (s : shut? n ≡ false) (other : (j : ℕ) → (j ≡ n → ⊥) → shut? j ≡ open? j) where
-  at_head : (l rest : List ℕ) → ((j : ℕ) → Mem j l → key n ≤ key j) → rest ≡ l → take_least key (n ∷ l) ≡ some (n, rest)
+  at_head : (l rest : List ℕ) → ((j : ℕ) → Mem j l → key n ≤ key j) → rest ≡ l → take_least key (n ∷ l) ≡ Some (n, rest)
   at_head l rest h e = rw e (go (take_least key l) (took key l))
     where
-      go : (t : Option (ℕ × List ℕ)) → Took key l t → pick_least key n l t ≡ some (n, l)
-      go none q = rw q
-      go (some t) q = rw (le-leb (key n) (key t.0) (h t.0 q.0.taken))
+      go : (t : Option (ℕ × List ℕ)) → Took key l t → pick_least key n l t ≡ Some (n, l)
+      go None q = rw q
+      go (Some t) q = rw (le-leb (key n) (key t.0) (h t.0 q.0.taken))
 
   pub took_first : (a k : ℕ) → a ≤ n → n < a + k → ((j : ℕ) → a ≤ j → j < a + k → open? j ≡ true → key n ≤ key j) → ((j : ℕ) → a ≤ j → j < n → open? j ≡ true → key n < key j)
-      → take_least key (select open? (count_from a k)) ≡ some (n, select shut? (count_from a k))
+      → take_least key (select open? (count_from a k)) ≡ Some (n, select shut? (count_from a k))
   took_first a zero b c least first = absurd (omega arith)
   took_first a (suc k) b c least first = go (ℕ_discrete a n) (λ g. took_first (suc a) k (omega arith) (omega arith) (λ j x y. least j (omega arith) (omega arith)) (λ j x y. first j (omega arith) (omega arith)))
     where
       rest : List ℕ
       rest = select open? (count_from (suc a) k)
 
-      passed : (t : Bool) → open? a ≡ t → (a ≡ n → ⊥) → take_least key rest ≡ some (n, select shut? (count_from (suc a) k))
-          → take_least key (cond t (a ∷ rest) rest) ≡ some (n, cond t (a ∷ select shut? (count_from (suc a) k)) (select shut? (count_from (suc a) k)))
+      passed : (t : Bool) → open? a ≡ t → (a ≡ n → ⊥) → take_least key rest ≡ Some (n, select shut? (count_from (suc a) k))
+          → take_least key (cond t (a ∷ rest) rest) ≡ Some (n, cond t (a ∷ select shut? (count_from (suc a) k)) (select shut? (count_from (suc a) k)))
       passed true e ne ih = rw (ih, lt-leb (key a) (key n) (first a (omega arith) (omega arith) e))
       passed false e ne ih = ih
 
-      go : Dec (a ≡ n) → (a < n → take_least key (select open? (count_from (suc a) k)) ≡ some (n, select shut? (count_from (suc a) k)))
-          → take_least key (select open? (count_from a (suc k))) ≡ some (n, select shut? (count_from a (suc k)))
+      go : Dec (a ≡ n) → (a < n → take_least key (select open? (count_from (suc a) k)) ≡ Some (n, select shut? (count_from (suc a) k)))
+          → take_least key (select open? (count_from a (suc k))) ≡ Some (n, select shut? (count_from a (suc k)))
       go (yes e) ih =
           rw (e, o, s)
           (at_head (select open? (count_from (suc n) k)) (select shut? (count_from (suc n) k))

@@ -1,6 +1,6 @@
 -- The nodes of the search's definition that the workspace stands for. Assumes nothing.
 use Rattle.std.specs.Prelude.{ℕ, zero, suc, ◌+◌, ◌*◌, ◌<◌, ◌≤◌, min, ◌≡◌, ◌⊎◌, Bool, not, List, [], ◌∷◌, ◌++◌, map, get_or, take, length, eqb}
-use Rattle.std.proofs.Math.Option.{some}
+use Rattle.std.specs.Prelude.{Some}
 use Rattle.deck.specs.Lists.{below, select, each, take_least}
 use Rattle.deck.specs.Sheet.{Sheet}
 use Rattle.deck.specs.Search.{Node, flowtime}
@@ -109,7 +109,7 @@ abbrev pub Cheapest : Sheet → ℕ → List ℕ → ℕ → Pick → Type 0
 Cheapest d limit work made Nothing = opened_at d limit work made ≡ []
 Cheapest d limit work made (Open n cost) =
     (cost ≡ (node_at d work n).cost)
-    × (take_least (λ x. x.cost) (opened_at d limit work made) ≡ some (node_at d work n, opened_at d limit (with_key limit n closed_key work) made))
+    × (take_least (λ x. x.cost) (opened_at d limit work made) ≡ Some (node_at d work n, opened_at d limit (with_key limit n closed_key work) made))
 
 abbrev pub InRange : ℕ → Pick → Type 0
 InRange made Nothing = Unit {0}

@@ -1,7 +1,7 @@
 -- What is known of the records of the nodes that are made, and what it is to make one more. Assumes nothing.
 use Rattle.std.specs.Prelude.{ℕ, ◌+◌, ◌<◌, ◌≤◌, ◌≡◌, get_or, length}
 use mathlib.Core.List.{List, [], ◌∷◌, ◌++◌, Memᴰ as Mem}
-use Rattle.std.proofs.Math.Option.{some}
+use Rattle.std.specs.Prelude.{Some}
 use Rattle.deck.specs.Sheet.{Sheet, area, carrier, task, start_of}
 use Rattle.deck.specs.Paths.{walks, least_path, finish_of}
 use Rattle.deck.specs.Search.{Node}
@@ -76,6 +76,6 @@ pub record RootSoFar (d : Sheet) (work : List ℕ) (n : ℕ) (a : List ℕ) (i :
   pub tasks : tasks_in (fields_at work n) ≡ task_list a
   pub long : length a ≡ d.count
   pub bytes : (k : ℕ) → get_or a k 0 < 256
-  pub least : (k : ℕ) → k < i → least_path d (carrier k) (task (get_or a k 0)) [] ≡ some (stored_path d (fields_at work n) k)
+  pub least : (k : ℕ) → k < i → least_path d (carrier k) (task (get_or a k 0)) [] ≡ Some (stored_path d (fields_at work n) k)
   pub finishes : (k : ℕ) → k < i → get_or (finishes_in (fields_at work n)) k 0 ≡ finish_of d (task (get_or a k 0)) (stored_path d (fields_at work n) k)
   pub zeros : (k : ℕ) → i ≤ k → get_or (finishes_in (fields_at work n)) k 0 ≡ 0

@@ -7,7 +7,7 @@ use mathlib.Core.List.Memᴰ.{head as here}
 use mathlib.Core.List.Memᴰ.{not-nil}
 use mathlib.Core.List.Memᴰ.{tail as there}
 use mathlib.Core.List.{List, [], ◌∷◌, Memᴰ as Mem}
-use mathlib.Core.Option.{Option, none, some}
+use Rattle.std.specs.Prelude.{Option, None, Some}
 use native.Mathlib.Nat.{le_of_lt, le_of_eq, lt_trans}
 use native.Mathlib.Decide.{ℕ_discrete}
 use native.Mathlib.Omega.{arith}
@@ -72,8 +72,8 @@ module _ (d : Sheet) where
   -- the least path
   least_law : (i j : ℕ) (cs : List Constraint) (o : Option (List ℕ)) → LeastMeant d (carrier i) (task j) cs o → IsLeast (problem d) (rules d) i j cs o
   unfolding problem
-  least_law i j cs none h = λ q u. h q (finish_of d (task j) q) (record { path = u.0; keeps = u.1 })
-  least_law i j cs (some p) h = (
+  least_law i j cs None h = λ q u. h q (finish_of d (task j) q) (record { path = u.0; keeps = u.1 })
+  least_law i j cs (Some p) h = (
     (h.under.path, h.under.keeps),
     λ q u. ⊎_elim le_of_lt (λ e. le_of_eq e.0) (h.first q (finish_of d (task j) q) (record { path = u.0; keeps = u.1 })),
   )
@@ -89,8 +89,8 @@ module _ (d : Sheet) where
   entry_finish i j h l ne = go (least_path d (carrier i) (task j) []) (subst (λ e. e ≢ barred) (table_at d i j h l) ne) ∙ sym (table_at d i j h l)
     where
       go : (o : Option (List ℕ)) → entry_of d (task j) o ≢ barred → finish_of d (task j) (path_or (problem d) o) ≡ entry_of d (task j) o
-      go none n = absurd (n refl)
-      go (some p) n = refl
+      go None n = absurd (n refl)
+      go (Some p) n = refl
 
   abbrev ordered : List (List ℕ)
   ordered = assignments_in_order d.count (table_of d)
@@ -121,13 +121,13 @@ module _ (d : Sheet) where
     split_law : (a : List ℕ) (ps : List (List ℕ)) → Legals (problem d) (rules d) a ps
         → (o : Option Collision) → first_collision d.count d.horizon ps ≡ o → Splits (problem d) (rules d) ps (sides_of o)
     unfolding problem sides sides_of
-    split_law a ps legal none e = no_first_collides d.count d.horizon ps e
-    split_law a ps legal (some c) e = go c (subst (FirstMeant d.count d.horizon ps) e (first_collision_meant d.count d.horizon ps))
+    split_law a ps legal None e = no_first_collides d.count d.horizon ps e
+    split_law a ps legal (Some c) e = go c (subst (FirstMeant d.count d.horizon ps) e (first_collision_meant d.count d.horizon ps))
       where
         on : (i t : ℕ) → i < d.count → t ≤ d.horizon → (u : ℕ) → path_of ps i at t ≡ u → u < area d
         on i t h l u e = subst (λ v. v < area d) e (path_on_grid (legal i h) (on_grid i h) t l)
 
-        go : (c : Collision) → FirstCollision d.count d.horizon ps c → Splits (problem d) (rules d) ps (some (sides c))
+        go : (c : Collision) → FirstCollision d.count d.horizon ps c → Splits (problem d) (rules d) ps (Some (sides c))
         go (PlaceCollision t i j u) f =
             let (below, last, (l, p, q)) = f.collided in
             let first = lt_trans below last in (
@@ -157,8 +157,8 @@ module _ (d : Sheet) where
       where
         go : (o : Option (List ℕ)) → LeastMeant d (carrier i) (task j) [] o → entry_of d (task j) o ≢ barred
             → (p : List ℕ) × Path d (carrier i) (task j) p (finish_of d (task j) p)
-        go none m n = absurd (n refl)
-        go (some p) m n = (p, m.under.path)
+        go None m n = absurd (n refl)
+        go (Some p) m n = (p, m.under.path)
 
     sound : (a : List ℕ) → Mem a ordered → Assignment d.count a × Served (problem d) (rules d) a
     unfolding problem
@@ -174,8 +174,8 @@ module _ (d : Sheet) where
       path_entry i j h l q t w = subst (λ e. e ≢ barred) (sym (table_at d i j h l)) (go (least_path d (carrier i) (task j) []) (least_meant i j [] h))
         where
           go : (o : Option (List ℕ)) → LeastMeant d (carrier i) (task j) [] o → entry_of d (task j) o ≢ barred
-          go none m e = m q t (record { path = w; keeps = λ c n. absurd (not-nil n) })
-          go (some p) m e = omega (arith, m.under.path.finishes.rests.0)
+          go None m e = m q t (record { path = w; keeps = λ c n. absurd (not-nil n) })
+          go (Some p) m e = omega (arith, m.under.path.finishes.rests.0)
 
       complete : (a : List ℕ) → Assignment d.count a → Served (problem d) (rules d) a → Mem a ordered
       unfolding problem

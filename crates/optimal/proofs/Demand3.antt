@@ -2,7 +2,7 @@
 use Prim.Native.Nat.{ℕ, ◌≤◌, ◌<◌}
 use mathlib.Core.Path.{◌≡◌, sym, subst, ◌∙◌}
 use mathlib.Core.List.{List}
-use mathlib.Core.Option.{some}
+use Rattle.std.specs.Prelude.{Some}
 use native.Mathlib.Omega.{arith}
 use Rattle.deck.specs.Sheet.{Sheet, area, carrier, start_of, read, cause}
 use Rattle.deck.specs.Assignments.{barred}
@@ -51,7 +51,7 @@ module _ (d : Sheet) where
 
   -- The search answers, and its answer is right
   module _ (room : 1 ≤ d.limit) (on_grid : (i : ℕ) → i < d.count → start_of d (carrier i) < area d) (short : d.horizon < barred) where
-    best_answer : (x : Answer (List ℕ)) × (searched (problem d) d.limit cheapest ≡ some x) × Best (problem d) (rules d) x
+    best_answer : (x : Answer (List ℕ)) × (searched (problem d) d.limit cheapest ≡ Some x) × Best (problem d) (rules d) x
     best_answer = exact_best (problem d) (rules d) (laws d on_grid short) d.limit room
 
     pub deck_right : Right d (plan_for d)

@@ -13,7 +13,7 @@ use mathlib.Core.List.Memᴰ.{head as here}
 use mathlib.Core.List.Memᴰ.{not-nil}
 use mathlib.Core.List.Memᴰ.{tail as there}
 use mathlib.Core.List.{List, [], ◌∷◌, ◌++◌, Memᴰ as Mem}
-use mathlib.Core.Option.{Option, none, some}
+use Rattle.std.specs.Prelude.{Option, None, Some}
 use native.Mathlib.Nat.{le_trans}
 use native.Mathlib.Omega.{arith}
 use lib.Dec.{leb, leb→le}
@@ -33,8 +33,8 @@ pub record Chosen {Path Constraint : Type 0} (Near : ℕ → ℕ → Type 0) (l 
   pub near : Near k.node.cost k.bound
 
 abbrev pub Picked : {Path Constraint : Type 0} (Near : ℕ → ℕ → Type 0) → List (Node Path Constraint) → Option (Selected Path Constraint) → Type 0
-Picked Near l none = l ≡ []
-Picked Near l (some k) = Chosen Near l k
+Picked Near l None = l ≡ []
+Picked Near l (Some k) = Chosen Near l k
 
 -- The next root, and the assignments that remain after it
 module _ {Path Constraint : Type 0} (w : Problem Path Constraint) (r : Rules Path Constraint) where
@@ -105,7 +105,7 @@ module _ {Path Constraint : Type 0} (w : Problem Path Constraint) (r : Rules Pat
     node_splits = L.collision k.node.tasks k.node.paths (legals w r taken_is_node)
 
     -- the node has the collision that gives the two constraints
-    module _ (cc : Constraint × Constraint) (sp : Splits w r k.node.paths (some cc)) where
+    module _ (cc : Constraint × Constraint) (sp : Splits w r k.node.paths (Some cc)) where
       abbrev new : List (Node Path Constraint)
       new = to_make w k.node cc s.rest
 
@@ -208,26 +208,26 @@ module _ {Path Constraint : Type 0} (w : Problem Path Constraint) (r : Rules Pat
   TurnRight t (more s) = Invariant w r limit s (suc t)
 
   module _ (s : State Path Constraint) (t : ℕ) (v : Invariant w r limit s t) (k : Selected Path Constraint) (ch : Chosen Near s.opened k) where
-    extend_right : (cc : Constraint × Constraint) → Splits w r k.node.paths (some cc)
+    extend_right : (cc : Constraint × Constraint) → Splits w r k.node.paths (Some cc)
         → (b : Bool) → leb (s.made + length (to_make w k.node cc s.rest)) limit ≡ b
         → TurnRight t (extend w limit choose s k (to_make w k.node cc s.rest) b)
     extend_right cc sp true e = next_inv w r L limit Near s t v k ch cc sp (leb→le _ limit (rw e tt))
     extend_right cc sp false e = bound_below w r L limit Near s t v k ch
 
     expand_right : (o : Option (Constraint × Constraint)) → Splits w r k.node.paths o → TurnRight t (expand w limit choose s k o)
-    expand_right none apart =
+    expand_right None apart =
         let o = taken_is_node w r L limit Near s t v k ch in (
           record { assigned = o.assigned; a_path_each = o.a_path_each; legal = legals w r o; apart = apart },
           o.cost_is,
           ch.near,
           bound_below w r L limit Near s t v k ch,
         )
-    expand_right (some cc) sp = extend_right cc sp (leb (s.made + length (to_make w k.node cc s.rest)) limit) refl
+    expand_right (Some cc) sp = extend_right cc sp (leb (s.made + length (to_make w k.node cc s.rest)) limit) refl
 
   turn_with_right : (s : State Path Constraint) (t : ℕ) → Invariant w r limit s t → (o : Option (Selected Path Constraint)) → Picked Near s.opened o
       → TurnRight t (turn_with w limit choose s o)
-  turn_with_right s t v none e = λ a qs p. let u = open_below w r limit L s t v a qs p in not-nil (subst (Mem u.0) e u.1)
-  turn_with_right s t v (some k) ch = expand_right s t v k ch (w.collision k.node.paths) (node_splits w r L limit Near s t v k ch)
+  turn_with_right s t v None e = λ a qs p. let u = open_below w r limit L s t v a qs p in not-nil (subst (Mem u.0) e u.1)
+  turn_with_right s t v (Some k) ch = expand_right s t v k ch (w.collision k.node.paths) (node_splits w r L limit Near s t v k ch)
 
   -- One turn keeps the invariant, or its answer is right
   pub turn_right : (s : State Path Constraint) (t : ℕ) → Invariant w r limit s t → TurnRight t (turn w limit choose s)
@@ -235,7 +235,7 @@ module _ {Path Constraint : Type 0} (w : Problem Path Constraint) (r : Rules Pat
 
   -- the answer is there and is right
   abbrev pub Answered : Option (Answer Path) → Type 0
-  Answered o = (a : Answer Path) × (o ≡ some a) × Right w r Near a
+  Answered o = (a : Answer Path) × (o ≡ Some a) × Right w r Near a
 
   pub run_right : (f t : ℕ) (s : State Path Constraint) → Invariant w r limit s t → limit < f + t → Answered (run w limit choose f s)
   run_right zero t s v l = absurd (omega (arith, v.counted, v.within))

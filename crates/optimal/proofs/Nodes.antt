@@ -10,7 +10,7 @@ use mathlib.Core.List.Memᴰ.{head as here}
 use mathlib.Core.List.Memᴰ.{not-nil}
 use mathlib.Core.List.Memᴰ.{tail as there}
 use mathlib.Core.List.{List, [], ◌∷◌, Memᴰ as Mem}
-use mathlib.Core.Option.{Option, none, some}
+use Rattle.std.specs.Prelude.{Option, None, Some}
 use native.Mathlib.Nat.{le_refl}
 use native.Mathlib.Decide.{ℕ_discrete}
 use lib.ListN.{set, length-set}
@@ -42,9 +42,9 @@ module _ {Path Constraint : Type 0} (w : Problem Path Constraint) (r : Rules Pat
 
   -- where there is a legal path, the least path without constraints is there
   root_least : (i j : ℕ) (q : Path) → r.Legal i j q → (o : Option Path) → IsLeast w r i j [] o
-      → IsLeast w r i j [] (some (path_or w o))
-  root_least i j q g none h = absurd (h q (g, no_keeps i q))
-  root_least i j q g (some p) h = h
+      → IsLeast w r i j [] (Some (path_or w o))
+  root_least i j q g None h = absurd (h q (g, no_keeps i q))
+  root_least i j q g (Some p) h = h
 
 module _ {Path Constraint : Type 0} (w : Problem Path Constraint) (r : Rules Path Constraint) (L : Laws w r) where
   pub root_is_node : (a : List ℕ) → r.IsAsg a → Served w r a → IsNode w r (root_of w a)
@@ -84,7 +84,7 @@ module _ {Path Constraint : Type 0} (w : Problem Path Constraint) (r : Rules Pat
     fewer i j p u = (u.0, λ b m. u.1 b (there m))
 
     -- the path of another carrier stays least
-    still_least : (i j : ℕ) (p : Path) → i ≢ at_bound → IsLeast w r i j n.constraints (some p) → IsLeast w r i j bars (some p)
+    still_least : (i j : ℕ) (p : Path) → i ≢ at_bound → IsLeast w r i j n.constraints (Some p) → IsLeast w r i j bars (Some p)
     still_least i j p ne h = (
       (h.0.0, λ b m. ⊎_elim (λ e. rw e (L.binds_one c i p ne)) (h.0.1 b) (cases_cons m)),
       λ q u. h.1 q (fewer i j q u),
@@ -95,17 +95,17 @@ module _ {Path Constraint : Type 0} (w : Problem Path Constraint) (r : Rules Pat
         → (i : ℕ) → i < w.count → P i (path_at w (set n.paths at_bound p) i)
     child_paths P p = set_all P w.count n.paths at_bound p w.no_path (rw o.a_path_each bound_below)
 
-    new_is_node : (p : Path) → IsLeast w r at_bound own_task bars (some p) → IsNode w r (child_node w n c p)
+    new_is_node : (p : Path) → IsLeast w r at_bound own_task bars (Some p) → IsNode w r (child_node w n c p)
     new_is_node p h = record {
       assigned = o.assigned;
       fits = child_fits;
       a_path_each = length-set n.paths at_bound p ∙ o.a_path_each;
-      least = child_paths (λ i q. IsLeast w r i (task_of w n.tasks i) bars (some q)) p h
+      least = child_paths (λ i q. IsLeast w r i (task_of w n.tasks i) bars (Some q)) p h
           (λ i l ne. still_least i _ _ ne (o.least i l));
       cost_is = refl;
     }
 
-    node_cost : (p : Path) → IsLeast w r at_bound own_task bars (some p) → n.cost ≤ (child_node w n c p).cost
+    node_cost : (p : Path) → IsLeast w r at_bound own_task bars (Some p) → n.cost ≤ (child_node w n c p).cost
     node_cost p h =
         rw o.cost_is
         (sum_le w.count _ _
@@ -115,13 +115,13 @@ module _ {Path Constraint : Type 0} (w : Problem Path Constraint) (r : Rules Pat
         (λ i l ne. le_refl _)))
 
     -- what holds of the child by each least path holds of the child
-    each_child : (P : Node Path Constraint → Type 0) → ((p : Path) → IsLeast w r at_bound own_task bars (some p) → P (child_node w n c p))
+    each_child : (P : Node Path Constraint → Type 0) → ((p : Path) → IsLeast w r at_bound own_task bars (Some p) → P (child_node w n c p))
         → (x : Node Path Constraint) → Mem x (child w n c) → P x
     each_child P f x = go (w.least at_bound own_task bars) own_least
       where
         go : (y : Option Path) → IsLeast w r at_bound own_task bars y → Mem x (child_with w n c y) → P x
-        go none h m = absurd (not-nil m)
-        go (some p) h m = rw (only m) (f p h)
+        go None h m = absurd (not-nil m)
+        go (Some p) h m = rw (only m) (f p h)
 
     pub child_is_node : (x : Node Path Constraint) → Mem x (child w n c) → IsNode w r x
     child_is_node = each_child (IsNode w r) new_is_node
@@ -143,5 +143,5 @@ module _ {Path Constraint : Type 0} (w : Problem Path Constraint) (r : Rules Pat
         keep i l b m = ⊎_elim (λ e. rw e (new i (ℕ_discrete i at_bound))) (λ t. v.keeps i l b t) (cases_cons m)
 
         go : (y : Option Path) → IsLeast w r at_bound own_task bars y → (x : Node Path Constraint) × Mem x (child_with w n c y) × Covers w r x a qs
-        go none h = absurd (h (path_at w qs at_bound) (rw v.same (p.legal at_bound bound_below), keep at_bound bound_below))
-        go (some q) h = (child_node w n c q, here refl, record { same = v.same; keeps = keep })
+        go None h = absurd (h (path_at w qs at_bound) (rw v.same (p.legal at_bound bound_below), keep at_bound bound_below))
+        go (Some q) h = (child_node w n c q, here refl, record { same = v.same; keeps = keep })

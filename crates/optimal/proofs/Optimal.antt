@@ -1,7 +1,7 @@
 -- Demand 3 of the exact search over abstract parts: it always answers, and its answer is the best. Assumes nothing.
 use Prim.Native.Nat.{ℕ, ◌≤◌}
 use mathlib.Core.Path.{◌≡◌, sym}
-use mathlib.Core.Option.{some}
+use Rattle.std.specs.Prelude.{Some}
 use Rattle.deck.specs.Search.{Problem, Answer, plan, no_plan, spent, searched, cheapest}
 use Rattle.optimal.specs.Plans.{Rules, Laws, Right, Best}
 use Rattle.optimal.proofs.Invariant.{searched_right}
@@ -15,5 +15,5 @@ module _ {Path Constraint : Type 0} (w : Problem Path Constraint) (r : Rules Pat
   best (spent n b) h = h
 
   -- The exact search answers: with a plan of least flowtime; with none, and there is no plan; or spent, with a bound that no plan's flowtime is below
-  pub exact_best : Laws w r → (limit : ℕ) → 1 ≤ limit → (a : Answer Path) × (searched w limit cheapest ≡ some a) × Best w r a
+  pub exact_best : Laws w r → (limit : ℕ) → 1 ≤ limit → (a : Answer Path) × (searched w limit cheapest ≡ Some a) × Best w r a
   exact_best L limit room = let u = searched_right w r L limit ◌≡◌ cheapest cheapest_picks room in (u.0, u.1, best u.0 u.2)

@@ -4,7 +4,7 @@ use Prim.Native.Nat.{ℕ, zero, suc, ◌+◌, ◌≤◌, ◌<◌}
 use mathlib.Core.Path.{◌≡◌, refl}
 use mathlib.Core.Bool.{Bool, true, false}
 use mathlib.Core.List.{List, [], ◌∷◌, ◌++◌, Memᴰ as Mem}
-use mathlib.Core.Option.{Option, none, some}
+use Rattle.std.specs.Prelude.{Option, None, Some}
 use native.Mathlib.Nat.{le_refl, le_trans}
 use native.Mathlib.Omega.{arith}
 use lib.Dec.{leb, leb→le, nleb→lt}
@@ -20,17 +20,17 @@ use Rattle.optimal.proofs.Select.{cheapest_picks}
 module _ {Path : Type 0} where
   -- the answer costs, or bounds, no less than c
   abbrev pub Floor : ℕ → Option (Answer Path) → Type 0
-  Floor c none = ⊥
-  Floor c (some (plan a ps f n b)) = c ≤ f
-  Floor c (some (no_plan n)) = Unit {0}
-  Floor c (some (spent n b)) = c ≤ b
+  Floor c None = ⊥
+  Floor c (Some (plan a ps f n b)) = c ≤ f
+  Floor c (Some (no_plan n)) = Unit {0}
+  Floor c (Some (spent n b)) = c ≤ b
 
   -- the second is the answer under a larger limit
   abbrev pub Raised : Option (Answer Path) → Option (Answer Path) → Type 0
-  Raised none y = ⊥
-  Raised (some (plan a ps f n b)) y = y ≡ some (plan a ps f n b)
-  Raised (some (no_plan n)) y = y ≡ some (no_plan n)
-  Raised (some (spent n b)) y = Floor b y
+  Raised None y = ⊥
+  Raised (Some (plan a ps f n b)) y = y ≡ Some (plan a ps f n b)
+  Raised (Some (no_plan n)) y = y ≡ Some (no_plan n)
+  Raised (Some (spent n b)) y = Floor b y
 
 module _ {Path Constraint : Type 0} (w : Problem Path Constraint) (r : Rules Path Constraint) (L : Laws w r) where
   -- no open node costs less than c
@@ -47,11 +47,11 @@ module _ {Path Constraint : Type 0} (w : Problem Path Constraint) (r : Rules Pat
     split : Splits w r k.node.paths (w.collision k.node.paths)
     split = node_splits w r L limit ◌≡◌ s t v k ch
 
-    keeps_inv : (cc : Constraint × Constraint) → Splits w r k.node.paths (some cc) → s.made + length (new cc) ≤ limit → Invariant w r limit (grown w s k (new cc)) (suc t)
+    keeps_inv : (cc : Constraint × Constraint) → Splits w r k.node.paths (Some cc) → s.made + length (new cc) ≤ limit → Invariant w r limit (grown w s k (new cc)) (suc t)
     keeps_inv = next_inv w r L limit ◌≡◌ s t v k ch
 
     -- so it stays
-    next_above : (c : ℕ) → Above c s.opened → (cc : Constraint × Constraint) → Splits w r k.node.paths (some cc) → Above c (k.others ++ new cc)
+    next_above : (c : ℕ) → Above c s.opened → (cc : Constraint × Constraint) → Splits w r k.node.paths (Some cc) → Above c (k.others ++ new cc)
     next_above c up cc sp =
         each_next w r (λ x. c ≤ x.cost) k cc s.rest
         (λ x m. up x (ch.out.among x m))
@@ -71,7 +71,7 @@ module _ {Path Constraint : Type 0} (w : Problem Path Constraint) (r : Rules Pat
         Goal : Turn Path Constraint → Type 0
         Goal x = Floor c (onward w limit cheapest (run w limit cheapest f) x)
 
-        by_limit : (k : Selected Path Constraint) → Chosen ◌≡◌ s.opened k → (cc : Constraint × Constraint) → Splits w r k.node.paths (some cc)
+        by_limit : (k : Selected Path Constraint) → Chosen ◌≡◌ s.opened k → (cc : Constraint × Constraint) → Splits w r k.node.paths (Some cc)
             → (b : Bool) → leb (s.made + length (to_make w k.node cc s.rest)) limit ≡ b → Again
             → Goal (extend w limit cheapest s k (to_make w k.node cc s.rest) b)
         by_limit k ch cc sp true e again = again _ (keeps_inv limit s t v k ch cc sp (leb→le _ limit (rw e tt))) (next_above limit s t v k ch c up cc sp)
@@ -79,12 +79,12 @@ module _ {Path Constraint : Type 0} (w : Problem Path Constraint) (r : Rules Pat
 
         by_collision : (k : Selected Path Constraint) → Chosen ◌≡◌ s.opened k → (o : Option (Constraint × Constraint)) → Splits w r k.node.paths o → Again
             → Goal (expand w limit cheapest s k o)
-        by_collision k ch none sp again = up k.node ch.out.taken
-        by_collision k ch (some cc) sp again = by_limit k ch cc sp (leb (s.made + length (to_make w k.node cc s.rest)) limit) refl again
+        by_collision k ch None sp again = up k.node ch.out.taken
+        by_collision k ch (Some cc) sp again = by_limit k ch cc sp (leb (s.made + length (to_make w k.node cc s.rest)) limit) refl again
 
         by_choice : (o : Option (Selected Path Constraint)) → Picked ◌≡◌ s.opened o → Again → Goal (turn_with w limit cheapest s o)
-        by_choice none h again = tt
-        by_choice (some k) ch again = by_collision k ch (w.collision k.node.paths) (split limit s t v k ch) again
+        by_choice None h again = tt
+        by_choice (Some k) ch again = by_collision k ch (w.collision k.node.paths) (split limit s t v k ch) again
 
   module _ (limit larger : ℕ) (more_room : limit ≤ larger) where
     wider : (s : State Path Constraint) (t : ℕ) → Invariant w r limit s t → Invariant w r larger s t
@@ -112,7 +112,7 @@ module _ {Path Constraint : Type 0} (w : Problem Path Constraint) (r : Rules Pat
         Goal : Turn Path Constraint → Turn Path Constraint → Type 0
         Goal x y = Raised (onward w limit cheapest (run w limit cheapest f) x) (onward w larger cheapest (run w larger cheapest g) y)
 
-        by_limit : (k : Selected Path Constraint) → Chosen ◌≡◌ s.opened k → (cc : Constraint × Constraint) → Splits w r k.node.paths (some cc)
+        by_limit : (k : Selected Path Constraint) → Chosen ◌≡◌ s.opened k → (cc : Constraint × Constraint) → Splits w r k.node.paths (Some cc)
             → (b d : Bool) → leb (s.made + length (to_make w k.node cc s.rest)) limit ≡ b
             → leb (s.made + length (to_make w k.node cc s.rest)) larger ≡ d → Again
             → Goal (extend w limit cheapest s k (to_make w k.node cc s.rest) b) (extend w larger cheapest s k (to_make w k.node cc s.rest) d)
@@ -128,15 +128,15 @@ module _ {Path Constraint : Type 0} (w : Problem Path Constraint) (r : Rules Pat
 
         by_collision : (k : Selected Path Constraint) → Chosen ◌≡◌ s.opened k → (o : Option (Constraint × Constraint)) → Splits w r k.node.paths o → Again
             → Goal (expand w limit cheapest s k o) (expand w larger cheapest s k o)
-        by_collision k ch none sp again = refl
-        by_collision k ch (some cc) sp again =
+        by_collision k ch None sp again = refl
+        by_collision k ch (Some cc) sp again =
             by_limit k ch cc sp
             (leb (s.made + length (to_make w k.node cc s.rest)) limit) (leb (s.made + length (to_make w k.node cc s.rest)) larger) refl refl again
 
         by_choice : (o : Option (Selected Path Constraint)) → Picked ◌≡◌ s.opened o → Again
             → Goal (turn_with w limit cheapest s o) (turn_with w larger cheapest s o)
-        by_choice none h again = refl
-        by_choice (some k) ch again = by_collision k ch (w.collision k.node.paths) (split limit s t v k ch) again
+        by_choice None h again = refl
+        by_choice (Some k) ch again = by_collision k ch (w.collision k.node.paths) (split limit s t v k ch) again
 
     raise_from : 1 ≤ limit → (l : List (List ℕ)) → w.assignments ≡ l → Raised (search_from w limit cheapest l) (search_from w larger cheapest l)
     raise_from room [] e = refl

@@ -1,6 +1,6 @@
 -- What a node of the search is, and which plans it stands for. Assumes nothing.
 use Rattle.std.specs.Prelude.{ℕ, ◌<◌, ◌≡◌, List, length}
-use Rattle.std.proofs.Math.Option.{some}
+use Rattle.std.specs.Prelude.{Some}
 use Rattle.deck.specs.Search.{Problem, Node, task_of, path_at, flowtime}
 use Rattle.optimal.specs.Plans.{Rules, Fits, KeepsAll, IsLeast}
 
@@ -10,7 +10,7 @@ module _ {Path Constraint : Type 0} (w : Problem Path Constraint) (r : Rules Pat
     pub assigned : r.IsAsg n.tasks
     pub fits : Fits w r n.constraints
     pub a_path_each : length n.paths ≡ w.count
-    pub least : (i : ℕ) → i < w.count → IsLeast w r i (task_of w n.tasks i) n.constraints (some (path_at w n.paths i))
+    pub least : (i : ℕ) → i < w.count → IsLeast w r i (task_of w n.tasks i) n.constraints (Some (path_at w n.paths i))
     pub cost_is : n.cost ≡ flowtime w n.tasks n.paths
 
   -- the node has the plan's assignment, and the plan keeps the node's constraints

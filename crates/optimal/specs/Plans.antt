@@ -2,7 +2,7 @@
 -- has to say of the plans. Assumes nothing.
 use Rattle.std.specs.Prelude.{ℕ, ◌≤◌, ◌<◌, ◌≡◌, ◌⊎◌, ◌≢◌, length}
 use mathlib.Core.List.{List, [], ◌∷◌, Memᴰ as Mem}
-use Rattle.std.proofs.Math.Option.{Option, none, some}
+use Rattle.std.specs.Prelude.{Option, None, Some}
 use Rattle.deck.specs.Search.{Problem, Answer, plan, no_plan, spent, task_of, path_at, flowtime, root_of}
 
 -- The rules of a round
@@ -46,8 +46,8 @@ module _ {Path Constraint : Type 0} (w : Problem Path Constraint) (r : Rules Pat
 
   -- what is said of the least path, or of none: no such path finishes earlier, or there is no such path
   abbrev pub IsLeast : (i j : ℕ) → List Constraint → Option Path → Type 0
-  IsLeast i j cs none = (q : Path) → ¬ Under i j cs q
-  IsLeast i j cs (some p) = Under i j cs p × ((q : Path) → Under i j cs q → w.finish j p ≤ w.finish j q)
+  IsLeast i j cs None = (q : Path) → ¬ Under i j cs q
+  IsLeast i j cs (Some p) = Under i j cs p × ((q : Path) → Under i j cs q → w.finish j p ≤ w.finish j q)
 
   -- the path of the carrier that the constraint binds keeps it
   abbrev pub KeepsOwn : List Path → Constraint → Type 0
@@ -56,8 +56,8 @@ module _ {Path Constraint : Type 0} (w : Problem Path Constraint) (r : Rules Pat
   -- what is said of the first collision's two constraints, or of none: paths that do not collide keep one or the other, or these
   -- paths do not collide
   abbrev pub Splits : List Path → Option (Constraint × Constraint) → Type 0
-  Splits ps none = Apart ps
-  Splits ps (some cc) =
+  Splits ps None = Apart ps
+  Splits ps (Some cc) =
       r.Fit cc.0 × r.Fit cc.1 × ((qs : List Path) → Apart qs → KeepsOwn qs cc.0 ⊎ KeepsOwn qs cc.1)
 
   -- each carrier has a path for its task

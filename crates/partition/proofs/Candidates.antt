@@ -5,7 +5,7 @@ use mathlib.Core.Logic.{◌⊎◌, inl, inr, ⊎_elim}
 use mathlib.Core.Bool.{cond, not}
 use mathlib.Core.List.Memᴰ.{not-nil}
 use mathlib.Core.List.{List, Memᴰ as Mem}
-use mathlib.Core.Option.{Option, none, some}
+use Rattle.std.specs.Prelude.{Option, None, Some}
 use native.Mathlib.Decide.{ℕ_discrete}
 use native.Mathlib.Nat.{le_refl}
 use native.Mathlib.Omega.{arith}
@@ -32,8 +32,8 @@ says_in_part q a =
 
 -- what a candidate is
 abbrev pub Candidate : ℕ → List ℕ → Part → Option (List ℕ) → Type 0
-Candidate m table q none = (b : List ℕ) → Unbarred m table b → ¬ InPart q b
-Candidate m table q (some a) = Unbarred m table a × InPart q a × ((b : List ℕ) → Unbarred m table b → InPart q b → (b ≡ a) ⊎ Less m table a b)
+Candidate m table q None = (b : List ℕ) → Unbarred m table b → ¬ InPart q b
+Candidate m table q (Some a) = Unbarred m table a × InPart q a × ((b : List ℕ) → Unbarred m table b → InPart q b → (b ≡ a) ⊎ Less m table a b)
 
 pub candidate_meant : (m : ℕ) (table : List ℕ) (q : Part) → Candidate m table q (candidate m table q)
 unfolding candidate
@@ -47,8 +47,8 @@ candidate_meant m table q =
     in_part_lem b u i = select_mem (in_part q) ((in_order_meant m table b).1 u) ((says_in_part q b).test i)
 
     go : (o : Option (List ℕ)) → Head (Less m table) part o → Candidate m table q o
-    go none e = λ b u i. not-nil (rw e at (in_part_lem b u i))
-    go (some a) (n, first) =
+    go None e = λ b u i. not-nil (rw e at (in_part_lem b u i))
+    go (Some a) (n, first) =
         let s = mem_select (in_part q) (assignments_in_order m table) n in
         ((in_order_meant m table a).0 s.0, (says_in_part q a).fact s.1, λ b u i. first b (in_part_lem b u i))
 
@@ -117,8 +117,8 @@ module _ (m : ℕ) (table : List ℕ) (q : Part) (low : q.row < m) where
       same_order a b h p k r (inr (e, l)) = inr (part_sum a h p ∙ e ∙ sym (part_sum b k r), l)
 
       go : (o : Option (List ℕ)) → Candidate m table q o → least_assignment m (part_table m table q) ≡ o
-      go none h = is_none m (part_table m table q) (λ b u. let v = unbarred_part b u in h b v.0 v.1)
-      go (some a) (u, p, first) =
+      go None h = is_none m (part_table m table q) (λ b u. let v = unbarred_part b u in h b v.0 v.1)
+      go (Some a) (u, p, first) =
           is_least m (part_table m table q) a (part_unbarred a u p)
           (λ b u'. let v = unbarred_part b u' in
           ⊎_elim (λ e. inl e) (λ l. inr (same_order a b u.0 p v.0.0 v.1 l)) (first b v.0 v.1))

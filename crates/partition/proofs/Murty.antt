@@ -12,7 +12,7 @@ use mathlib.Core.List.Memᴰ.{head as here}
 use mathlib.Core.List.Memᴰ.{not-nil}
 use mathlib.Core.List.Memᴰ.{tail as there}
 use mathlib.Core.List.{List, [], ◌∷◌, ◌++◌, Memᴰ as Mem}
-use mathlib.Core.Option.{Option, none, some}
+use Rattle.std.specs.Prelude.{Option, None, Some}
 use native.Mathlib.Omega.{arith}
 use lib.ListN.{length}
 use Rattle.deck.specs.Lists.{count_from, each}
@@ -50,28 +50,28 @@ module _ {A : Type 0} where
 
 module _ (m : ℕ) (small : m ≤ 12) (table : List ℕ) where
   -- the slot of a part: it has the part's candidate
-  in_slot_with : (q : Part) (s : Slot) → Mem s (slot_with q (candidate m table q)) → (s.part ≡ q) × (candidate m table q ≡ some s.first)
+  in_slot_with : (q : Part) (s : Slot) → Mem s (slot_with q (candidate m table q)) → (s.part ≡ q) × (candidate m table q ≡ Some s.first)
   in_slot_with q s n = go (candidate m table q) n
     where
-      go : (o : Option (List ℕ)) → Mem s (slot_with q o) → (s.part ≡ q) × (o ≡ some s.first)
-      go none k = absurd (not-nil k)
-      go (some a) k = (ap (λ (t : Slot). t.part) (only k), ap (λ (t : Slot). some t.first) (sym (only k)))
+      go : (o : Option (List ℕ)) → Mem s (slot_with q o) → (s.part ≡ q) × (o ≡ Some s.first)
+      go None k = absurd (not-nil k)
+      go (Some a) k = (ap (λ (t : Slot). t.part) (only k), ap (λ (t : Slot). Some t.first) (sym (only k)))
 
   -- and it is there where the part is not empty
   slot_with_in : (q : Part) (x : List ℕ) → Unbarred m table x → InPart q x → (s : Slot) × Mem s (slot_with q (candidate m table q)) × (s.part ≡ q)
   slot_with_in q x u p = go (candidate m table q) (candidate_meant m table q)
     where
       go : (o : Option (List ℕ)) → Candidate m table q o → (s : Slot) × Mem s (slot_with q o) × (s.part ≡ q)
-      go none c = absurd (c x u p)
-      go (some a) c = (record { part = q; first = a }, here refl, refl)
+      go None c = absurd (c x u p)
+      go (Some a) c = (record { part = q; first = a }, here refl, refl)
 
-  slot_first : (s : Slot) → candidate m table s.part ≡ some s.first → Candidate m table s.part (some s.first)
+  slot_first : (s : Slot) → candidate m table s.part ≡ Some s.first → Candidate m table s.part (Some s.first)
   slot_first s e = subst (Candidate m table s.part) e (candidate_meant m table s.part)
 
   module _ (a : List ℕ) (k : ℕ) (ts : List ℕ) where
     -- the slots of a part are those of carriers from k on
     of_slots : (s : Slot) → Mem s (slots_of m table a k ts)
-        → (j : ℕ) × (k ≤ j) × (j < m) × (s.part ≡ slot_part a k ts j) × (candidate m table s.part ≡ some s.first)
+        → (j : ℕ) × (k ≤ j) × (j < m) × (s.part ≡ slot_part a k ts j) × (candidate m table s.part ≡ Some s.first)
     unfolding slots_of
     of_slots s n =
         let e = mem_each (λ j. slot_with (slot_part a k ts j) (candidate m table (slot_part a k ts j))) (count_from k (m - k)) n in
@@ -95,8 +95,8 @@ module _ (m : ℕ) (small : m ≤ 12) (table : List ℕ) where
         fill j = slot_with (slot_part a q.row q.closed j) (candidate m table (slot_part a q.row q.closed j))
 
         one : (q : Part) (o : Option (List ℕ)) → Sorted Apart (slot_with q o)
-        one q none = tt
-        one q (some b) = (λ t n. absurd (not-nil n), tt)
+        one q None = tt
+        one q (Some b) = (λ t n. absurd (not-nil n), tt)
 
         -- carriers in order, so that the two of a pair are told apart
         go : (k n : ℕ) → k + n ≤ m → Sorted Apart (each fill (count_from k n))
@@ -116,7 +116,7 @@ module _ (m : ℕ) (small : m ≤ 12) (table : List ℕ) where
 
   -- ONE STEP
   module _ (l : List Slot) (s : Slot) (r : List Slot) (best : Best m table (l ++ s ∷ r) s) where
-    mine : (rest : List (List ℕ)) → Holds m table (l ++ s ∷ r) rest → Candidate m table s.part (some s.first)
+    mine : (rest : List (List ℕ)) → Holds m table (l ++ s ∷ r) rest → Candidate m table s.part (Some s.first)
     mine rest H = slot_first s (H.right s (the_one l s r))
 
     stays : (rest : List (List ℕ)) → Holds m table (l ++ s ∷ r) rest → Mem s.first rest
@@ -155,7 +155,7 @@ module _ (m : ℕ) (small : m ≤ 12) (table : List ℕ) where
       apart = sorted_append Apart (l ++ r) next (sorted_others Apart l s r H.apart) (slots_apart s.part low long s.first c.0.0 c.1) cross;
     }
       where
-        c : Candidate m table s.part (some s.first)
+        c : Candidate m table s.part (Some s.first)
         c = mine (b ∷ rest) H
 
         low : s.part.row < m
@@ -218,19 +218,19 @@ module _ (m : ℕ) (small : m ≤ 12) (table : List ℕ) where
   none_remains (b ∷ rest) H = absurd (not-nil (H.covered b (here refl)).1)
 
   -- THE FIRST: the least assignment; the slots of the whole then hold the others
-  pub first_in_order_lem : 0 < m → (a : List ℕ) → least_assignment m table ≡ some a
+  pub first_in_order_lem : 0 < m → (a : List ℕ) → least_assignment m table ≡ Some a
       → (others : List (List ℕ)) × (assignments_in_order m table ≡ a ∷ others) × Holds m table (slots_of m table a 0 none_closed) others
   first_in_order_lem pos a e = next_in_order [] whole [] (λ t n. inl (ap (λ (t : Slot). t.first) (only n))) (assignments_in_order m table) start
     where
       whole : Slot
       whole = record { part = whole_part; first = a }
 
-      is_first : candidate m table whole_part ≡ some a
+      is_first : candidate m table whole_part ≡ Some a
       is_first = go (candidate m table whole_part) (candidate_meant m table whole_part)
         where
-          go : (o : Option (List ℕ)) → Candidate m table whole_part o → o ≡ some a
-          go none c = absurd (c a (least_assignment_meant m table a e).0 (in_whole a))
-          go (some b) c = sym (is_least m table b c.0 (λ x u. c.2 x u (in_whole x))) ∙ e
+          go : (o : Option (List ℕ)) → Candidate m table whole_part o → o ≡ Some a
+          go None c = absurd (c a (least_assignment_meant m table a e).0 (in_whole a))
+          go (Some b) c = sym (is_least m table b c.0 (λ x u. c.2 x u (in_whole x))) ∙ e
 
       start : Holds m table (whole ∷ []) (assignments_in_order m table)
       start = record {
@@ -250,7 +250,7 @@ module _ (m : ℕ) (small : m ≤ 12) (table : List ℕ) where
       let n = next_in_order l s r best rest H in
       n.1 ∙ ap (λ (x : List (List ℕ)). s.first ∷ x) (handed_out ((l ++ r) ++ slots_of m table s.first s.part.row s.part.closed) more n.0 again n.2)
 
-  pub murty_in_order : 0 < m → (a : List ℕ) → least_assignment m table ≡ some a → (out : List (List ℕ))
+  pub murty_in_order : 0 < m → (a : List ℕ) → least_assignment m table ≡ Some a → (out : List (List ℕ))
       → HandsOut m table (slots_of m table a 0 none_closed) out → assignments_in_order m table ≡ a ∷ out
   murty_in_order pos a e out h =
       let n = first_in_order_lem pos a e in

@@ -3,7 +3,7 @@
 -- another. Assumes nothing.
 use Rattle.std.specs.Prelude.{ℕ, ◌-◌, ◌<◌, ◌≡◌, ◌⊎◌, Bool, cond, not, ◌&&◌, length, set, replicate, eqb, ltb}
 use mathlib.Core.List.{List, [], ◌∷◌, ◌++◌, Memᴰ as Mem}
-use Rattle.std.proofs.Math.Option.{Option, none, some}
+use Rattle.std.specs.Prelude.{Option, None, Some}
 use Rattle.deck.specs.Lists.{below, count_from, all, select, each, head_of}
 use Rattle.deck.specs.Assignments.{barred, entry_at, assignments_in_order}
 use Rattle.meaning.specs.Meaning.{◌at◌, Unbarred, Less}
@@ -51,8 +51,8 @@ pub record Slot : Type 0 where
   pub first : List ℕ
 
 abbrev pub slot_with : Part → Option (List ℕ) → List Slot
-slot_with q none = []
-slot_with q (some a) = record { part = q; first = a } ∷ []
+slot_with q None = []
+slot_with q (Some a) = record { part = q; first = a } ∷ []
 
 -- the slots of a part, one for each carrier from k on, of which some may be empty
 unfoldable pub slots_of : ℕ → List ℕ → List ℕ → ℕ → List ℕ → List Slot
@@ -75,7 +75,7 @@ pub record Holds (m : ℕ) (table : List ℕ) (slots : List Slot) (rest : List (
   pub covered : (a : List ℕ) → Mem a rest → (s : Slot) × Mem s slots × InPart s.part a
   pub held : (s : Slot) → Mem s slots → (a : List ℕ) → Unbarred m table a → InPart s.part a → Mem a rest
   pub proper : (s : Slot) → Mem s slots → (s.part.row < m) × (length s.part.closed ≡ 12)
-  pub right : (s : Slot) → Mem s slots → candidate m table s.part ≡ some s.first
+  pub right : (s : Slot) → Mem s slots → candidate m table s.part ≡ Some s.first
   pub apart : Sorted Apart slots
 
 -- the slot's first assignment is no later than those of the others

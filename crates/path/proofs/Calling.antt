@@ -4,7 +4,7 @@ use mathlib.Core.Path.{◌≡◌, refl, sym, ap}
 use mathlib.Core.Logic.{◌≢◌}
 use mathlib.Core.Bool.{◌&&◌}
 use mathlib.Core.List.{List}
-use mathlib.Core.Option.{Option, none, some}
+use Rattle.std.specs.Prelude.{Option, None, Some}
 use native.Mathlib.Omega.{arith}
 use lib.ListN.{length, drop}
 use lib.Seq.{take_at}
@@ -47,13 +47,13 @@ module _ (s : List ℕ) (i : Carrier) (j : Task) (work out : ℕ) (rs : List ℕ
       let c4 = first_none (workspace_cause (read s) work) c3.1 in
       let b = passes_last (ltb i.0 (count_of s) && ltb j.0 (count_of s)) 7 c2.0 in
       let l = ltb→lt i.0 (count_of s) (and_left (ltb i.0 (count_of s)) (ltb j.0 (count_of s)) b) in
-      let some : 0 < count_of s = omega arith in
+      let Some : 0 < count_of s = omega arith in
       record {
-        accepted = with_carriers s c1.0 some;
+        accepted = with_carriers s c1.0 Some;
         carrier_in = l;
         task_in = ltb→lt j.0 (count_of s) (and_right (ltb i.0 (count_of s)) (ltb j.0 (count_of s)) b);
         records = passes_last (good_records (read s) rs) 8 c3.0;
-        room = rw (← workspace_with (read s) some) (leb→le (workspace_of (read s)) work (passes_last (leb (workspace_of (read s)) work) 9 c4.0));
+        room = rw (← workspace_with (read s) Some) (leb→le (workspace_of (read s)) work (passes_last (leb (workspace_of (read s)) work) 9 c4.0));
         long = leb→le (suc (horizon_of s)) out (passes_last (leb (suc (horizon_of s)) out) 10 c4.1);
       }
 
@@ -78,8 +78,8 @@ module _ (s : List ℕ) (i : Carrier) (j : Task) (work out rs : List ℕ) where
   meant = by_cause c refl
     where
       found : c ≡ 0 → (o : Option (List ℕ)) → LeastMeant (read s) i j cs o → Meant s i j work out rs (path_found (read s) j o) (path_written o out)
-      found z none l = (z, l)
-      found z (some p) l = (z, rw (take_at p (drop (length p) out) (suc (horizon_of s)) l.under.path.long) l)
+      found z None l = (z, l)
+      found z (Some p) l = (z, rw (take_at p (drop (length p) out) (suc (horizon_of s)) l.under.path.long) l)
 
       by_cause : (n : ℕ) → n ≡ c → Meant s i j work out rs (path_answer_for n (read s) i j rs) (path_output_for n (read s) i j rs out)
       by_cause zero e =

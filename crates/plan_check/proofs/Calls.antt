@@ -3,7 +3,7 @@ use Prim.Native.Nat.{ℕ, zero, suc}
 use mathlib.Core.Path.{◌≡◌, refl, sym, ap, subst, ◌∙◌}
 use mathlib.Core.Bool.{Bool, true, false, ◌&&◌, cond}
 use mathlib.Core.List.{List}
-use mathlib.Core.Option.{Option, none, some}
+use Rattle.std.specs.Prelude.{Option, None, Some}
 use native.Mathlib.Omega.{arith}
 use lib.ListN.{length, take, drop}
 use lib.Dec.{eqb}
@@ -39,21 +39,21 @@ module _ (s : List ℕ) (ok : sheet_cause s ≡ 0) where
 
 -- the tests of a plan: 255 from m on, an assignment, paths, no collision
 abbrev verdict : (e a p c : Bool) → ℕ → CheckAnswer
-verdict e a p c f = check_found (cond (e && (a && p && c)) (some f) none)
+verdict e a p c f = check_found (cond (e && (a && p && c)) (Some f) None)
 
-verdict_none : (o : Option ℕ) → o ≡ none → No ≡ check_found o
+verdict_none : (o : Option ℕ) → o ≡ None → No ≡ check_found o
 unfolding check_found
 verdict_none o e = rw e
 
 no_assignment : (e p c : Bool) (f : ℕ) → No ≡ verdict e false p c f
-no_assignment true p c f = verdict_none none refl
-no_assignment false p c f = verdict_none none refl
+no_assignment true p c f = verdict_none None refl
+no_assignment false p c f = verdict_none None refl
 
 collided : (e a p : Bool) (f : ℕ) → No ≡ verdict e a p false f
-collided true true true f = verdict_none none refl
-collided true true false f = verdict_none none refl
-collided true false p f = verdict_none none refl
-collided false a p f = verdict_none none refl
+collided true true true f = verdict_none None refl
+collided true true false f = verdict_none None refl
+collided true false p f = verdict_none None refl
+collided false a p f = verdict_none None refl
 
 by_paths : (p : Bool) (f : ℕ) → cond p (Yes f) No ≡ verdict true true p true f
 unfolding check_found
@@ -88,9 +88,9 @@ module _ (s tasks ws : List ℕ) where
   unfolding check_call check_cause check_for check_found
   meant f = (λ e. yes_plan (sheet_cause s) refl (eqb (length ws) (plan_words (read s))) refl e, plan_yes)
     where
-      found_yes : (o : Option ℕ) → check_found o ≡ Yes f → o ≡ some f
-      found_yes none e = let z : ◌≡◌ {A = ℕ} 0 1 = cc in absurd (omega arith)
-      found_yes (some g) e = cc
+      found_yes : (o : Option ℕ) → check_found o ≡ Yes f → o ≡ Some f
+      found_yes None e = let z : ◌≡◌ {A = ℕ} 0 1 = cc in absurd (omega arith)
+      found_yes (Some g) e = cc
 
       yes_plan : (c : ℕ) → sheet_cause s ≡ c → (b : Bool) → eqb (length ws) (plan_words (read s)) ≡ b
           → check_for (c or_else unless b wrong_length) (read s) tasks ws ≡ Yes f → PlanFor s tasks ws f
@@ -134,7 +134,7 @@ module _ (s tasks ws : List ℕ) where
       not_assigned e = ensured No (no_assignment ends served apart flow ∙ ap (λ b. verdict ends b served apart flow) (sym e) ∙ by_plan)
 
       pub not_ended : ends ≡ false → Ensured No
-      not_ended e = ensured No (verdict_none none refl ∙ ap (λ b. verdict b assigned served apart flow) (sym e) ∙ by_plan)
+      not_ended e = ensured No (verdict_none None refl ∙ ap (λ b. verdict b assigned served apart flow) (sym e) ∙ by_plan)
 
       pub not_apart : apart ≡ false → Ensured No
       not_apart e = ensured No (collided ends assigned served flow ∙ ap (λ b. verdict ends assigned served b flow) (sym e) ∙ by_plan)

@@ -3,7 +3,7 @@ use Prim.Native.Nat.{ℕ, zero, suc, ◌+◌, ◌-◌, ◌*◌, ◌≤◌, ◌<�
 use mathlib.Core.Path.{◌≡◌, refl, sym, ap, subst, ◌∙◌}
 use mathlib.Core.Bool.{Bool, true, false, ◌&&◌, cond}
 use mathlib.Core.List.{List, [], ◌∷◌, map}
-use mathlib.Core.Option.{Option, none, some}
+use Rattle.std.specs.Prelude.{Option, None, Some}
 use native.Mathlib.Omega.{arith}
 use native.Mathlib.Numerals.{add-one}
 use lib.ListN.{length, get_or, take, drop, length-take, length-drop}
@@ -52,8 +52,8 @@ module _ (m h : ℕ) (ps : List (List ℕ)) where
   never_refused n = go (first_collision m h ps)
     where
       go : (o : Option Collision) → CollisionRefused n ≡ collision_found o → ⊥
-      go none e = let z : ◌≡◌ {A = ℕ} 0 1 = cc in omega arith
-      go (some x) e = let z : ◌≡◌ {A = ℕ} 0 1 = cc in omega arith
+      go None e = let z : ◌≡◌ {A = ℕ} 0 1 = cc in omega arith
+      go (Some x) e = let z : ◌≡◌ {A = ℕ} 0 1 = cc in omega arith
 
 -- what the answer for one path says
 module _ (d : Sheet) (i : Carrier) (j : Task) (p : List ℕ) where

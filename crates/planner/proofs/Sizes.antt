@@ -4,7 +4,7 @@ use mathlib.Core.Path.{◌≡◌, refl, sym}
 use mathlib.Core.Logic.{◌≢◌, ⊎_elim}
 use mathlib.Core.Bool.{Bool, true, false}
 use mathlib.Core.List.{List, [], ◌∷◌, map}
-use mathlib.Core.Option.{Option, none, some}
+use Rattle.std.specs.Prelude.{Option, None, Some}
 use native.Mathlib.Decide.{dec_le}
 use native.Mathlib.Nat.{mul-le-mul_right, suc-mul}
 use native.Mathlib.Omega.{arith}
@@ -80,8 +80,8 @@ module _ (s : List ℕ) (i : Carrier) (j : Task) (work out : ℕ) (rs : List ℕ
       start = accepted_start s ok.accepted i.0 ok.carrier_in
 
       go : (o : Option (List ℕ)) → LeastMeant (read s) i j (constraints_of rs) o → SmallPath (path_found (read s) j o)
-      go none l = tt
-      go (some p) l = omega (arith, l.under.path.finishes.rests.0, accepted_horizon s ok.accepted)
+      go None l = tt
+      go (Some p) l = omega (arith, l.under.path.finishes.rests.0, accepted_horizon s ok.accepted)
   path_small_for (suc c) e = omega arith
 
   pub path_small : SmallPath (path_answer_for (path_cause s i j work out rs) (read s) i j rs)
@@ -110,8 +110,8 @@ module _ (m : ℕ) (table : List ℕ) (words : (k : ℕ) → table at k < 65536)
   assignment_small_for zero e = go (least_assignment m table) (least_assignment_lem m table)
     where
       go : (o : Option (List ℕ)) → Least m table o → SmallAssignment (assignment_kind zero m table o)
-      go none l = tt
-      go (some a) l = sum_of_small a (omega (arith, few (sym e), l.0.0.as_many))
+      go None l = tt
+      go (Some a) l = sum_of_small a (omega (arith, few (sym e), l.0.0.as_many))
   assignment_small_for (suc c) e = omega arith
 
   pub assignment_small : SmallAssignment (assignment_kind (assignment_cause m table) m table (least_for (assignment_cause m table) m table))
@@ -161,8 +161,8 @@ module _ (s tasks ws : List ℕ) where
   has_cause c zero e = go (plan_check (read s) tasks (pieces (count_of s) (suc (horizon_of s)) ws)) e
     where
       go : (o : Option ℕ) → CheckRefused c ≡ check_found o → 0 < c
-      go none f = let z : ◌≡◌ {A = ℕ} 0 1 = cc in absurd (omega arith)
-      go (some t) f = let z : ◌≡◌ {A = ℕ} 0 1 = cc in absurd (omega arith)
+      go None f = let z : ◌≡◌ {A = ℕ} 0 1 = cc in absurd (omega arith)
+      go (Some t) f = let z : ◌≡◌ {A = ℕ} 0 1 = cc in absurd (omega arith)
   has_cause c (suc n) e = let f : c ≡ suc n = cc in omega arith
 
   pub check_small : (r : CheckAnswer) → r ≡ check_call s tasks ws → CheckMeant s tasks ws r → SmallCheck r
@@ -178,8 +178,8 @@ SmallAnswer (no_plan n) = n < word
 SmallAnswer (spent n b) = (n < word) × (b < word)
 
 abbrev SmallRun : Option (Answer (List ℕ)) → Type 0
-SmallRun none = Unit {0}
-SmallRun (some a) = SmallAnswer a
+SmallRun None = Unit {0}
+SmallRun (Some a) = SmallAnswer a
 
 abbrev SmallTurn : Turn (List ℕ) Constraint → Type 0
 SmallTurn (done a) = SmallAnswer a
@@ -230,15 +230,15 @@ module _ (s : List ℕ) (ok : cause s ≡ 0) where
       extend_small new false = (limit_small, bound_small)
 
       expand_small : (o : Option (Constraint × Constraint)) → SmallTurn (expand (problem d) d.limit cheapest st k o)
-      expand_small none = (taken_small, made_small, bound_small)
-      expand_small (some cc) = extend_small (to_make (problem d) k.node cc st.rest) (leb (st.made + length (to_make (problem d) k.node cc st.rest)) d.limit)
+      expand_small None = (taken_small, made_small, bound_small)
+      expand_small (Some cc) = extend_small (to_make (problem d) k.node cc st.rest) (leb (st.made + length (to_make (problem d) k.node cc st.rest)) d.limit)
 
     turn_small : SmallTurn (turn (problem d) d.limit cheapest st)
     turn_small = go (cheapest st.opened) (cheapest_picks st.opened)
       where
         go : (o : Option (Selected (List ℕ) Constraint)) → Picked ◌≡◌ st.opened o → SmallTurn (turn_with (problem d) d.limit cheapest st o)
-        go none e = made_small
-        go (some k) ch = expand_small k ch ((problem d).collision k.node.paths)
+        go None e = made_small
+        go (Some k) ch = expand_small k ch ((problem d).collision k.node.paths)
 
   run_small : (f t : ℕ) (st : State (List ℕ) Constraint) → Kept st t → SmallRun (run (problem d) d.limit cheapest f st)
   run_small zero t st v = tt
@@ -261,12 +261,12 @@ module _ (s : List ℕ) (ok : cause s ≡ 0) where
   plan_small = go (search_from (problem d) d.limit cheapest (problem d).assignments) (from_small (problem d).assignments refl)
     where
       go : (o : Option (Answer (List ℕ))) → SmallRun o → SmallAnswer (answer_or o)
-      go none h = omega arith
-      go (some a) h = h
+      go None h = omega arith
+      go (Some a) h = h
 
 round_small : (s : List ℕ) → sheet_cause s ≡ 0 → SmallAnswer (round_of (read s))
 unfolding round_of
-round_small s ok = round_has SmallAnswer s (plan_for (read s)) ok (λ none. (omega arith, omega arith, omega arith)) (plan_small s)
+round_small s ok = round_has SmallAnswer s (plan_for (read s)) ok (λ None. (omega arith, omega arith, omega arith)) (plan_small s)
 
 found_small : (a : Answer (List ℕ)) → SmallAnswer a → SmallSearch (search_found a)
 unfolding search_found

@@ -3,7 +3,7 @@ use Prim.Native.Nat.{ℕ, ◌+◌, ◌<◌, ◌≤◌}
 use mathlib.Core.Path.{◌≡◌, refl, sym, ap, ◌∙◌}
 use mathlib.Core.Bool.{true, false, not, false≢true}
 use mathlib.Core.List.{List, [], ◌∷◌}
-use mathlib.Core.Option.{Option, none, some}
+use Rattle.std.specs.Prelude.{Option, None, Some}
 use native.Mathlib.Decide.{ℕ_discrete, dec_le}
 use native.Mathlib.Omega.{arith}
 use lib.ListN.{length, get_or, set, get_or-eq_default}
@@ -78,11 +78,11 @@ module _ (s : List ℕ) (ok : cause s ≡ 0) where
   first_begun m t before work tasks em et root taken = first_begun_at before work tasks root (rw (em, et) at taken)
 
 -- WITH A FIRST ASSIGNMENT, AND WITHOUT
-head_none : (l : List (List ℕ)) → head_of l ≡ none → l ≡ []
+head_none : (l : List (List ℕ)) → head_of l ≡ None → l ≡ []
 head_none [] e = refl
 head_none (a ∷ l) e = cc
 
-none_assigned : (d : Sheet) → least_assignment d.count (table_of d) ≡ none → (problem d).assignments ≡ []
+none_assigned : (d : Sheet) → least_assignment d.count (table_of d) ≡ None → (problem d).assignments ≡ []
 unfolding problem least_assignment
 none_assigned d e = head_none (assignments_in_order d.count (table_of d)) e
 
@@ -90,7 +90,7 @@ module _ (s : List ℕ) (ok : cause s ≡ 0) where
   none_plan : (problem (read s)).assignments ≡ [] → plan_for (read s) ≡ no_plan 0
   unfolding searched
   none_plan e =
-      let c : some (no_plan 0) ≡ some (plan_for (read s)) = sym (ap (search_from (problem (read s)) (read s).limit cheapest) e) ∙ plan_answers (read s) (limit_range s ok).0 in
+      let c : Some (no_plan 0) ≡ Some (plan_for (read s)) = sym (ap (search_from (problem (read s)) (read s).limit cheapest) e) ∙ plan_answers (read s) (limit_range s ok).0 in
       cc
 
   module _ (t : List ℕ) (table : copied (read s).count t ≡ table_of (read s)) (m : ℕ) (em : m ≡ (read s).count) (r : Candidate)
@@ -106,16 +106,16 @@ module _ (s : List ℕ) (ok : cause s ≡ 0) where
     none_answer f = go first refl candidate_is
       where
         go : (o : Option (List ℕ)) → first ≡ o → r ≡ candidate_for (read s).count (table_of (read s)) o → plan_for (read s) ≡ no_plan 0
-        go none z c = none_plan (none_assigned (read s) z)
-        go (some a) z c = absurd (false≢true (sym (ap (λ (x : Candidate). not x.found) c) ∙ f))
+        go None z c = none_plan (none_assigned (read s) z)
+        go (Some a) z c = absurd (false≢true (sym (ap (λ (x : Candidate). not x.found) c) ∙ f))
 
-    pub some_tasks : not r.found ≡ false → (a : List ℕ) × (first ≡ some a) × (r.tasks ≡ task_list a)
+    pub some_tasks : not r.found ≡ false → (a : List ℕ) × (first ≡ Some a) × (r.tasks ≡ task_list a)
     unfolding candidate_for
     some_tasks f = go first refl candidate_is
       where
-        go : (o : Option (List ℕ)) → first ≡ o → r ≡ candidate_for (read s).count (table_of (read s)) o → (a : List ℕ) × (first ≡ some a) × (r.tasks ≡ task_list a)
-        go none z c = absurd (false≢true (sym f ∙ ap (λ (x : Candidate). not x.found) c))
-        go (some a) z c = (a, z, ap (λ (x : Candidate). x.tasks) c)
+        go : (o : Option (List ℕ)) → first ≡ o → r ≡ candidate_for (read s).count (table_of (read s)) o → (a : List ℕ) × (first ≡ Some a) × (r.tasks ≡ task_list a)
+        go None z c = absurd (false≢true (sym f ∙ ap (λ (x : Candidate). not x.found) c))
+        go (Some a) z c = (a, z, ap (λ (x : Candidate). x.tasks) c)
 
 -- THE ANSWER
 module _ (d : Sheet) (work : List ℕ) (made n cost : ℕ) (a : Answer (List ℕ)) (p : PlanAt d work made n cost a) where

@@ -2,7 +2,7 @@
 #![tactic(auto)]
 
 ghost use Rattle.std.specs.Prelude.{◌≡◌, List, ℕ, ◌+◌, ◌*◌, ◌<◌, ◌≤◌, length};
-ghost use Rattle.std.proofs.Math.Option.{some};
+ghost use Rattle.std.specs.Prelude.{Some};
 ghost use Rattle.deck.specs.Sheet.{read, count_of, cause};
 ghost use Rattle.deck.specs.Assignments.{least_assignment, table_of};
 ghost use Rattle.deck.specs.Calls.{search_found, search_written, task_list, no_tasks, workspace_for, plan_words};
@@ -97,7 +97,7 @@ fn planned(
     bounds: &[u8],
 ) -> SearchAnswer
     requires given { Given s.now mask.now t.now work.old bounds.now × StartsOf (read s.now) starts.now × (plan_words (read s.now) ≤ length out.old) }
-    requires by_index { (a : List ℕ) × (least_assignment (count_of s.now) (table_of (read s.now)) ≡ some a) × (tasks ≡ task_list a) }
+    requires by_index { (a : List ℕ) × (least_assignment (count_of s.now) (table_of (read s.now)) ≡ Some a) × (tasks ≡ task_list a) }
     ensures { (result ≡ search_found (plan_for (read s.now))) × (out.new ≡ search_written (plan_for (read s.now)) out.old) }
 {
     roots::first_root(work, sheet::count(s), t, tasks);

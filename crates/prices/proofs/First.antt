@@ -9,7 +9,7 @@ use mathlib.Core.List.Memᴰ.{head as here}
 use mathlib.Core.List.Memᴰ.{not-nil}
 use mathlib.Core.List.Memᴰ.{tail as there}
 use mathlib.Core.List.{List, [], ◌∷◌, map, Memᴰ as Mem}
-use mathlib.Core.Option.{Option, none, some}
+use Rattle.std.specs.Prelude.{Option, None, Some}
 use native.Mathlib.Nat.{suc_inj, eq-or-lt_of_le, le_of_suc-le-suc, mul-le-mul_right, suc-mul}
 use native.Mathlib.Omega.{arith}
 use lib.ListN.{length}
@@ -60,21 +60,21 @@ module _ (m : ℕ) (table : List ℕ) where
   less_trans a b d (inr (e, p)) (inr (f, q)) = inr (e ∙ f, before_trans a b d p q)
 
   -- the least assignment is known by what it is
-  pub is_none : ((b : List ℕ) → ¬ Unbarred m table b) → least_assignment m table ≡ none
+  pub is_none : ((b : List ℕ) → ¬ Unbarred m table b) → least_assignment m table ≡ None
   is_none h = go (least_assignment m table) (least_assignment_lem m table)
     where
-      go : (o : Option (List ℕ)) → Least m table o → o ≡ none
-      go none l = refl
-      go (some b) l = absurd (h b l.0)
+      go : (o : Option (List ℕ)) → Least m table o → o ≡ None
+      go None l = refl
+      go (Some b) l = absurd (h b l.0)
 
   pub is_least : (a : List ℕ) → Unbarred m table a → ((b : List ℕ) → Unbarred m table b → (b ≡ a) ⊎ Less m table a b)
-      → least_assignment m table ≡ some a
+      → least_assignment m table ≡ Some a
   is_least a u h = go (least_assignment m table) (least_assignment_lem m table)
     where
-      go : (o : Option (List ℕ)) → Least m table o → o ≡ some a
-      go none l = let b = l a u.0 in absurd (u.1 b.0 b.1 b.2)
-      go (some b) l =
-          ap some
+      go : (o : Option (List ℕ)) → Least m table o → o ≡ Some a
+      go None l = let b = l a u.0 in absurd (u.1 b.0 b.1 b.2)
+      go (Some b) l =
+          ap Some
           (⊎_elim (λ e. e) (λ p. ⊎_elim (λ e. sym e) (λ q. absurd (less_asym a b p q)) (l.1 a u)) (h b l.0))
 
 -- DIGITS
@@ -233,10 +233,10 @@ module _ (m : ℕ) (small : m ≤ 12) (table : List ℕ) (words : AtMost m (entr
         rank_order 11 a b (h.as_many ∙ sym k.as_many) (omega (arith, h.as_many)) (tasks_sum a h ∙ sym (tasks_sum b k)) (digits a h) (digits b k)
         (omega (arith, both b k, ap (λ (z : ℕ). z * place 12) e))
 
-    pub merged_none : heavy ≤ cost m (weights m table) a → least_assignment m table ≡ none
+    pub merged_none : heavy ≤ cost m (weights m table) a → least_assignment m table ≡ None
     merged_none l = is_none m table (λ b u. omega (arith, weight_least b u.0, unbarred_light b u))
 
-    pub merged_first : cost m (weights m table) a < heavy → least_assignment m table ≡ some a
+    pub merged_first : cost m (weights m table) a < heavy → least_assignment m table ≡ Some a
     merged_first l = is_least m table a open_a (λ b u. go b u (eq-or-lt_of_le (weight_least b u.0)))
       where
         open_a : Unbarred m table a

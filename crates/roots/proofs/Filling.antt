@@ -4,7 +4,7 @@ use mathlib.Core.Path.{◌≡◌, refl, sym, ap, subst, ◌∙◌}
 use mathlib.Core.Logic.{⊎_elim, ◌≢◌}
 use mathlib.Core.Bool.{true, false}
 use mathlib.Core.List.{List, [], ◌∷◌}
-use mathlib.Core.Option.{Option, none, some}
+use Rattle.std.specs.Prelude.{Option, None, Some}
 use native.Mathlib.Omega.{arith}
 use native.Mathlib.Decide.{ℕ_discrete}
 use lib.ListN.{get_or, set, take, length, replicate, length-set, length-append, length-replicate}
@@ -53,8 +53,8 @@ slots_long work n h = length_field work n 6 (omega arith) h
 
 -- a slot whose words are those of another
 pub same_slot : (m : ℕ) (table : List ℕ) (fs gs : List (List ℕ)) (j : ℕ) (o : Option (List ℕ)) → slot_in fs j ≡ slot_in gs j → SlotFor m table gs j o → SlotFor m table fs j o
-same_slot m table fs gs j none e h = λ f. h (sym (ap (λ (l : List ℕ). get_or l 0 0) e) ∙ f)
-same_slot m table fs gs j (some a) e h = (
+same_slot m table fs gs j None e h = λ f. h (sym (ap (λ (l : List ℕ). get_or l 0 0) e) ∙ f)
+same_slot m table fs gs j (Some a) e h = (
   ap (λ (l : List ℕ). get_or l 0 0) e ∙ h.0,
   ap (λ (l : List ℕ). get_or l 1 0) e ∙ h.1,
   ap (λ (l : List ℕ). part 2 12 l) e ∙ h.2,
@@ -65,19 +65,19 @@ list_long a h = length-append a (replicate (12 - length a) 255) ∙ rw (length-r
 
 -- a candidate is stored
 module _ (m : ℕ) (table : List ℕ) (fs : List (List ℕ)) (long : length fs ≡ 10) (all : length (get_or fs 6 []) ≡ 168) (j : ℕ) (low : j < 12) where
-  pub words_long : (o : Option (List ℕ)) → ((a : List ℕ) → o ≡ some a → length a ≤ 12) → length (slot_words (candidate_for m table o) (slot_in fs j)) ≡ 14
+  pub words_long : (o : Option (List ℕ)) → ((a : List ℕ) → o ≡ Some a → length a ≤ 12) → length (slot_words (candidate_for m table o) (slot_in fs j)) ≡ 14
   unfolding candidate_for
-  words_long none few = length-set (slot_in fs j) 0 0 ∙ slot_long fs long all j low []
-  words_long (some a) few = ap (λ (n : ℕ). suc (suc n)) (list_long a (few a refl))
+  words_long None few = length-set (slot_in fs j) 0 0 ∙ slot_long fs long all j low []
+  words_long (Some a) few = ap (λ (n : ℕ). suc (suc n)) (list_long a (few a refl))
 
-  pub slot_stored : (o : Option (List ℕ)) → ((a : List ℕ) → o ≡ some a → length a ≤ 12) → SlotFor m table (with_slot fs j (slot_words (candidate_for m table o) (slot_in fs j))) j o
+  pub slot_stored : (o : Option (List ℕ)) → ((a : List ℕ) → o ≡ Some a → length a ≤ 12) → SlotFor m table (with_slot fs j (slot_words (candidate_for m table o) (slot_in fs j))) j o
   unfolding candidate_for
-  slot_stored none few =
-      let e : slot_in (with_slot fs j (set (slot_in fs j) 0 0)) j ≡ set (slot_in fs j) 0 0 = slot_same fs long all j low (set (slot_in fs j) 0 0) (words_long none few) in
+  slot_stored None few =
+      let e : slot_in (with_slot fs j (set (slot_in fs j) 0 0)) j ≡ set (slot_in fs j) 0 0 = slot_same fs long all j low (set (slot_in fs j) 0 0) (words_long None few) in
       λ f. absurd (omega (arith, sym (ap (λ (l : List ℕ). get_or l 0 0) e) ∙ f, get_or-set_same (slot_in fs j) 0 0 0 (omega (arith, slot_long fs long all j low []))))
-  slot_stored (some a) few =
+  slot_stored (Some a) few =
       let ys : List ℕ = 1 ∷ sum_of m table a ∷ task_list a in
-      let e : slot_in (with_slot fs j ys) j ≡ ys = slot_same fs long all j low ys (words_long (some a) few) in (
+      let e : slot_in (with_slot fs j ys) j ≡ ys = slot_same fs long all j low ys (words_long (Some a) few) in (
         ap (λ (l : List ℕ). get_or l 0 0) e,
         ap (λ (l : List ℕ). get_or l 1 0) e,
         ap (λ (l : List ℕ). part 2 12 l) e ∙ take_all 12 (task_list a) (omega (arith, list_long a (few a refl))),
@@ -113,7 +113,7 @@ module _ (m : ℕ) (table before : List ℕ) (n : ℕ) (small : m ≤ 12) where
   abbrev first : ℕ → Option (List ℕ)
   first i = candidate m table (slot_part (take m (tasks_in (fields_at before n))) (row_in (fields_at before n)) (closed_in (fields_at before n)) i)
 
-  few : (i : ℕ) (a : List ℕ) → first i ≡ some a → length a ≤ 12
+  few : (i : ℕ) (a : List ℕ) → first i ≡ Some a → length a ≤ 12
   few i a e =
       let q = slot_part (take m (tasks_in (fields_at before n))) (row_in (fields_at before n)) (closed_in (fields_at before n)) i in
       omega (arith, (subst (CandidateIs m table q) e (candidate_meant m table q)).0.0.as_many)

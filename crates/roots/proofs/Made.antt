@@ -9,7 +9,7 @@ use mathlib.Core.List.Memᴰ.{append_right as in_right}
 use mathlib.Core.List.Memᴰ.{cases_cons}
 use mathlib.Core.List.Memᴰ.{not-nil}
 use mathlib.Core.List.{List, [], ◌∷◌, ◌++◌, Memᴰ as Mem}
-use mathlib.Core.Option.{Option, none, some}
+use Rattle.std.specs.Prelude.{Option, None, Some}
 use native.Mathlib.Omega.{arith}
 use native.Mathlib.Decide.{ℕ_discrete}
 use lib.ListN.{set, take, length, replicate, get_or-append}
@@ -106,8 +106,8 @@ module _ (m : ℕ) (table before after : List ℕ) (made : ℕ) (tasks : List �
     where
       go : (o : Option (List ℕ)) → Candidate m table (slot_part (take m tasks) row closed j) o → SlotFor m table new j o
           → cond (eqb (flag_in new j) 1) (slot_of m new j ∷ []) [] ≡ slot_with (slot_part (take m tasks) row closed j) o
-      go none k s = rw (ne_eqb (flag_in new j) 1 s)
-      go (some a) k s = rw (eq-eqb (flag_in new j) 1 s.0, new_tasks, new_row, new_closed, s.2, take_list m a k.0.0.as_many)
+      go None k s = rw (ne_eqb (flag_in new j) 1 s)
+      go (Some a) k s = rw (eq-eqb (flag_in new j) 1 s.0, new_tasks, new_row, new_closed, s.2, take_list m a k.0.0.as_many)
 
   slots_new : root_slots m new ≡ slots_of m table (take m tasks) row closed
   unfolding root_slots slots_of
@@ -137,11 +137,11 @@ module _ (m : ℕ) (table before after : List ℕ) (made : ℕ) (tasks : List �
           }
         where
           go : (j : ℕ) → flag_in new j ≡ 1 → (o : Option (List ℕ)) → Candidate m table (slot_part (take m tasks) row closed j) o → SlotFor m table new j o
-              → SlotFor m table new j (some (take m (slot_tasks_in new j)))
-          go j f none k s = absurd (s f)
-          go j f (some a) k s =
+              → SlotFor m table new j (Some (take m (slot_tasks_in new j)))
+          go j f None k s = absurd (s f)
+          go j f (Some a) k s =
               let e : take m (slot_tasks_in new j) ≡ a = ap (take m) s.2 ∙ take_list m a k.0.0.as_many in
-              subst (λ (b : List ℕ). SlotFor m table new j (some b)) (sym e) s
+              subst (λ (b : List ℕ). SlotFor m table new j (Some b)) (sym e) s
 
       pub made_holds : (rest : List (List ℕ)) → ((n : ℕ) → Mem n roots → Rooted m table (fields_at before n)) → Holds m table (slots_at m before roots ++ slots_of m table (take m tasks) row closed) rest
           → PartsHold m table after (made ∷ roots) rest
@@ -246,7 +246,7 @@ chosen_inside m table work latest n j rest small H chosen =
     )
 
 -- THE FIRST ROOT
-pub first_made : (m : ℕ) (table before after final a : List ℕ) → 0 < m → m ≤ 12 → least_assignment m table ≡ some a
+pub first_made : (m : ℕ) (table before after final a : List ℕ) → 0 < m → m ≤ 12 → least_assignment m table ≡ Some a
     → ((others : List (List ℕ)) → PartsHold m table after (0 ∷ []) others → SlotsHold m table final 1 others)
     → RootMade m table before after 0 (task_list a) 0 none_closed → NextTaken m table final 1 (assignments_in_order m table) (task_list a)
 unfolding slots_at

@@ -7,7 +7,7 @@ use mathlib.Core.List.Memᴰ.{head as here}
 use mathlib.Core.List.Memᴰ.{not-nil}
 use mathlib.Core.List.Memᴰ.{tail as there}
 use mathlib.Core.List.{List, [], ◌∷◌, ◌++◌, append_assoc, Memᴰ as Mem}
-use mathlib.Core.Option.{some}
+use Rattle.std.specs.Prelude.{Some}
 use native.Mathlib.Omega.{arith}
 use native.Mathlib.Decide.{ℕ_discrete}
 use lib.ListN.{get_or, set, take, length, length-set}
@@ -162,7 +162,7 @@ module _ (m : ℕ) (work after roots : List ℕ) (n j : ℕ) (small : m ≤ 12) 
       kept : Rooted m table fs → Rooted m table gs
       kept q = record { part = rw (tasks_kept, closed_kept) q.part; slots = λ i a b f. one i a b f (ℕ_discrete i j) }
         where
-          one : (i : ℕ) → row_in gs ≤ i → i < m → flag_in gs i ≡ 1 → Dec (i ≡ j) → SlotFor m table gs i (some (take m (slot_tasks_in gs i)))
+          one : (i : ℕ) → row_in gs ≤ i → i < m → flag_in gs i ≡ 1 → Dec (i ≡ j) → SlotFor m table gs i (Some (take m (slot_tasks_in gs i)))
           one i a b f (yes e) = absurd (omega (arith, no_flag, sym (ap (flag_in gs) e) ∙ f))
           one i a b f (no e) =
               rw (other_slot i e)

@@ -2,7 +2,7 @@
 -- Assumes nothing.
 use Rattle.std.specs.Prelude.{ℕ, ◌-◌, ◌<◌, ◌≤◌, ◌≡◌, cond, get_or, set, take, eqb}
 use mathlib.Core.List.{List, [], ◌∷◌, Memᴰ as Mem}
-use Rattle.std.proofs.Math.Option.{Option, none, some}
+use Rattle.std.specs.Prelude.{Option, None, Some}
 use Rattle.deck.specs.Lists.{count_from, each}
 use Rattle.deck.specs.Assignments.{sum_of}
 use Rattle.deck.specs.Calls.{task_list}
@@ -28,8 +28,8 @@ slots_at m work roots = each (λ n. root_slots m (fields_at work n)) roots
 
 -- the words of a slot with the first assignment of its part, or of a slot whose part is empty
 abbrev pub SlotFor : ℕ → List ℕ → List (List ℕ) → ℕ → Option (List ℕ) → Type 0
-SlotFor m table fs j none = flag_in fs j ≡ 1 → ⊥
-SlotFor m table fs j (some a) = (flag_in fs j ≡ 1) × (sum_in fs j ≡ sum_of m table a) × (slot_tasks_in fs j ≡ task_list a)
+SlotFor m table fs j None = flag_in fs j ≡ 1 → ⊥
+SlotFor m table fs j (Some a) = (flag_in fs j ≡ 1) × (sum_in fs j ≡ sum_of m table a) × (slot_tasks_in fs j ≡ task_list a)
 
 -- the tasks and the closed tasks of a root are bytes, and the tasks of its carriers index twelve words
 pub record PartKept (m : ℕ) (tasks closed : List ℕ) : Type 0 where
@@ -40,7 +40,7 @@ pub record PartKept (m : ℕ) (tasks closed : List ℕ) : Type 0 where
 -- what holds of the fields of a root; a slot that is not empty has its assignment's sum and its list of 12
 pub record Rooted (m : ℕ) (table : List ℕ) (fs : List (List ℕ)) : Type 0 where
   pub part : PartKept m (tasks_in fs) (closed_in fs)
-  pub slots : (j : ℕ) → row_in fs ≤ j → j < m → flag_in fs j ≡ 1 → SlotFor m table fs j (some (take m (slot_tasks_in fs j)))
+  pub slots : (j : ℕ) → row_in fs ≤ j → j < m → flag_in fs j ≡ 1 → SlotFor m table fs j (Some (take m (slot_tasks_in fs j)))
 
 -- the slots of the roots hold the assignments that remain
 pub record PartsHold (m : ℕ) (table work roots : List ℕ) (rest : List (List ℕ)) : Type 0 where

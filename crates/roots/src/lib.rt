@@ -4,7 +4,7 @@
 #![tactic(auto)]
 
 ghost use Rattle.std.specs.Prelude.{◌≡◌, List, ℕ, ◌+◌, ◌*◌, ◌-◌, ◌<◌, ◌≤◌, length};
-ghost use Rattle.std.proofs.Math.Option.{some};
+ghost use Rattle.std.specs.Prelude.{Some};
 ghost use Rattle.deck.specs.Lists.{count_from};
 ghost use Rattle.deck.specs.Assignments.{least_assignment, assignments_in_order};
 ghost use Rattle.deck.specs.Calls.{task_list};
@@ -326,7 +326,7 @@ pub fn make_root(work: &mut [u32], m: usize, t: &[u16; 144], n: usize, root: Roo
 
 // Makes the record of the first root, of number 0, whose list of 12 is that of the least assignment.
 pub fn first_root(work: &mut [u32], m: usize, t: &[u16; 144], tasks: [u8; 12])
-    requires { (0 < m) × (m ≤ 12) × (512 ≤ length work.old) × ((a : List ℕ) × (least_assignment m (copied m t.now) ≡ some a) × (tasks ≡ task_list a)) }
+    requires { (0 < m) × (m ≤ 12) × (512 ≤ length work.old) × ((a : List ℕ) × (least_assignment m (copied m t.now) ≡ Some a) × (tasks ≡ task_list a)) }
     ensures begun { RootBegun work.old work.new 0 tasks }
     ensures hold { NextTaken m (copied m t.now) work.new 1 (assignments_in_order m (copied m t.now)) tasks }
 {

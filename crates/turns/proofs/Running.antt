@@ -4,7 +4,7 @@ use Prim.Native.Nat.{ℕ, suc, ◌+◌, ◌-◌, ◌<◌, ◌≤◌}
 use mathlib.Core.Path.{◌≡◌, sym, ap, subst, ◌∙◌}
 use mathlib.Core.List.{List, [], ◌∷◌}
 use mathlib.Core.Bool.{Bool, true, false}
-use mathlib.Core.Option.{Option, none, some}
+use Rattle.std.specs.Prelude.{Option, None, Some}
 use native.Mathlib.Numerals.{add-one}
 use native.Mathlib.Omega.{arith}
 use lib.ListN.{length}
@@ -28,7 +28,7 @@ use Rattle.turns.proofs.Turning.{St, deck_laws}
 pub record Going (s work : List ℕ) (made latest k : ℕ) : Type 0 where
   pub state : St
   pub turning : Turning (read s) work made latest k state
-  pub comes : (f : ℕ) → f + k ≡ suc (read s).limit → run (problem (read s)) (read s).limit cheapest f state ≡ some (plan_for (read s))
+  pub comes : (f : ℕ) → f + k ≡ suc (read s).limit → run (problem (read s)) (read s).limit cheapest f state ≡ Some (plan_for (read s))
 
 -- no fewer nodes are made after a turn
 module _ (w : Problem (List ℕ) Constraint) (limit : ℕ) where
@@ -41,12 +41,12 @@ module _ (w : Problem (List ℕ) Constraint) (limit : ℕ) where
   extended st k new false = tt
 
   expanded : (st : St) (k : Selected (List ℕ) Constraint) (o : Option (Constraint × Constraint)) → NoFewer st.made (expand w limit cheapest st k o)
-  expanded st k none = tt
-  expanded st k (some c) = extended st k (to_make w k.node c st.rest) (leb (st.made + length (to_make w k.node c st.rest)) limit)
+  expanded st k None = tt
+  expanded st k (Some c) = extended st k (to_make w k.node c st.rest) (leb (st.made + length (to_make w k.node c st.rest)) limit)
 
   turned_with : (st : St) (o : Option (Selected (List ℕ) Constraint)) → NoFewer st.made (turn_with w limit cheapest st o)
-  turned_with st none = tt
-  turned_with st (some k) = expanded st k (w.collision k.node.paths)
+  turned_with st None = tt
+  turned_with st (Some k) = expanded st k (w.collision k.node.paths)
 
   no_fewer : (st next : St) → turn w limit cheapest st ≡ more next → st.made ≤ next.made
   no_fewer st next e = subst (NoFewer st.made) e (turned_with st (cheapest st.opened))
@@ -65,7 +65,7 @@ module _ (s : List ℕ) (ok : cause s ≡ 0) where
 
   -- the turns do not run out
   pub going_ends : (work : List ℕ) (made latest k : ℕ) → Going s work made latest k → k ≡ suc (read s).limit → ⊥
-  going_ends work made latest k g e = let n : none ≡ some (plan_for (read s)) = g.comes 0 (omega arith) in let z : ◌≡◌ {A = ℕ} 0 1 = cc in omega arith
+  going_ends work made latest k g e = let n : None ≡ Some (plan_for (read s)) = g.comes 0 (omega arith) in let z : ◌≡◌ {A = ℕ} 0 1 = cc in omega arith
 
   -- one turn
   module _ (work : List ℕ) (made latest k : ℕ) (going : Going s work made latest k) (left : k < suc (read s).limit) (after : List ℕ) (r : Turned)
@@ -76,14 +76,14 @@ module _ (s : List ℕ) (ok : cause s ≡ 0) where
     turned : (x : Turned) → r ≡ x → TurnedTo (read s) after made x next
     turned x e = subst (λ y. TurnedTo (read s) after made y next) e (says going.state k going.turning)
 
-    comes_next : (f : ℕ) → f + suc k ≡ suc (read s).limit → onward (problem (read s)) (read s).limit cheapest (run (problem (read s)) (read s).limit cheapest f) next ≡ some (plan_for (read s))
+    comes_next : (f : ℕ) → f + suc k ≡ suc (read s).limit → onward (problem (read s)) (read s).limit cheapest (run (problem (read s)) (read s).limit cheapest f) next ≡ Some (plan_for (read s))
     comes_next f e = going.comes (suc f) (omega arith)
 
     -- it ends the search
     ends : (a : Answer (List ℕ)) → next ≡ done a → plan_for (read s) ≡ a
     ends a e =
         let f : ℕ = (read s).limit - k in
-        let c : some a ≡ some (plan_for (read s)) = sym (ap (onward (problem (read s)) (read s).limit cheapest (run (problem (read s)) (read s).limit cheapest f)) e) ∙ comes_next f (omega arith) in
+        let c : Some a ≡ Some (plan_for (read s)) = sym (ap (onward (problem (read s)) (read s).limit cheapest (run (problem (read s)) (read s).limit cheapest f)) e) ∙ comes_next f (omega arith) in
         cc
 
     pub going_more : (m l : ℕ) → r ≡ More m l → Going s after m l (k + 1)

@@ -3,7 +3,7 @@
 use Prim.Native.Nat.{ℕ, suc, ◌+◌, ◌*◌, ◌<◌, ◌≤◌}
 use mathlib.Core.Path.{◌≡◌, refl, sym, ap, ap₂, subst, ◌∙◌}
 use mathlib.Core.List.{List, [], ◌++◌}
-use mathlib.Core.Option.{Option, none, some}
+use Rattle.std.specs.Prelude.{Option, None, Some}
 use native.Mathlib.Omega.{arith}
 use native.Mathlib.Numerals.{add-one}
 use lib.ListN.{length, get_or, drop, length-set}
@@ -66,27 +66,27 @@ node_collision d work n w last m starts ew el em es out words r written e =
     e ∙ rw (same, em, el) refl
 
 -- what the answer says of the collision
-pub found_is : (o : Option Collision) (c : Collision) → CollisionFound c ≡ collision_found o → o ≡ some c
+pub found_is : (o : Option Collision) (c : Collision) → CollisionFound c ≡ collision_found o → o ≡ Some c
 unfolding collision_found
-found_is none c e = cc
-found_is (some x) c e = cc
+found_is None c e = cc
+found_is (Some x) c e = cc
 
 -- an answer that is no collision found
-pub none_is : (keys : CollisionAnswer → Type 0) → ((c : Collision) → keys (CollisionFound c) → ⊥) → (o : Option Collision) (r : CollisionAnswer) → r ≡ collision_found o → keys r → o ≡ none
+pub none_is : (keys : CollisionAnswer → Type 0) → ((c : Collision) → keys (CollisionFound c) → ⊥) → (o : Option Collision) (r : CollisionAnswer) → r ≡ collision_found o → keys r → o ≡ None
 unfolding collision_found
-none_is keys never none r e k = refl
-none_is keys never (some c) r e k = absurd (never c (subst keys e k))
+none_is keys never None r e k = refl
+none_is keys never (Some c) r e k = absurd (never c (subst keys e k))
 
 -- the two constraints of the first collision
 collision_is : (d : Sheet) (ps : List (List ℕ)) (o : Option Collision) → first_collision d.count d.horizon ps ≡ o → (problem d).collision ps ≡ sides_of o
 unfolding problem
 collision_is d ps o e = ap sides_of e
 
-pub sides_are : (c : Collision) → sides_of (some c) ≡ some (sides c)
+pub sides_are : (c : Collision) → sides_of (Some c) ≡ Some (sides c)
 unfolding sides_of
 sides_are c = refl
 
-no_sides : sides_of none ≡ none
+no_sides : sides_of None ≡ None
 unfolding sides_of
 no_sides = refl
 
@@ -138,7 +138,7 @@ module _ (s : List ℕ) (ok : cause s ≡ 0) where
     held : Held (read s) work made latest st
     held = turning.0
 
-    chooses : cheapest st.opened ≡ some choice
+    chooses : cheapest st.opened ≡ Some choice
     chooses = ap cheapest (sym held.opened) ∙ ap selected taken.1
 
     picked : Chosen ◌≡◌ st.opened choice
@@ -171,11 +171,11 @@ module _ (s : List ℕ) (ok : cause s ≡ 0) where
       turn_is = ap (turn_with (problem (read s)) (read s).limit cheapest st) chooses ∙ ap (expand (problem (read s)) (read s).limit cheapest st choice) collides
 
     -- without one it is the plan
-    pub turn_plan : first_collision (read s).count (read s).horizon (node_at (read s) after n).paths ≡ none
+    pub turn_plan : first_collision (read s).count (read s).horizon (node_at (read s) after n).paths ≡ None
         → TurnedTo (read s) after made (Plan n cost) (turn (problem (read s)) (read s).limit cheapest st)
     turn_plan first = (
       plan (node_at (read s) after n).tasks (node_at (read s) after n).paths cost made cost,
-      turn_is none first ∙ rw (no_sides, same_node, taken.0, held.number),
+      turn_is None first ∙ rw (no_sides, same_node, taken.0, held.number),
       record {
         inside = omega (arith, held.within);
         answer = refl;
@@ -184,10 +184,10 @@ module _ (s : List ℕ) (ok : cause s ≡ 0) where
     )
 
     -- with one, its two constraints are those of the sheet
-    module _ (c : Collision) (first : first_collision (read s).count (read s).horizon (node_at (read s) after n).paths ≡ some c) where
-      splits : Splits (problem (read s)) (rules (read s)) (node_at (read s) work n).paths (some (sides c))
+    module _ (c : Collision) (first : first_collision (read s).count (read s).horizon (node_at (read s) after n).paths ≡ Some c) where
+      splits : Splits (problem (read s)) (rules (read s)) (node_at (read s) work n).paths (Some (sides c))
       splits =
-          subst (Splits (problem (read s)) (rules (read s)) (node_at (read s) work n).paths) (collides (some c) first ∙ sides_are c)
+          subst (Splits (problem (read s)) (rules (read s)) (node_at (read s) work n).paths) (collides (Some c) first ∙ sides_are c)
           (node_splits (problem (read s)) (rules (read s)) deck_laws (read s).limit ◌≡◌ st k turning.1 choice picked)
 
       pub sides_good : InRange (read s) (sides c).0 × InRange (read s) (sides c).1
@@ -198,7 +198,7 @@ module _ (s : List ℕ) (ok : cause s ≡ 0) where
           ≡ make_each (problem (read s)) (read s).limit cost (node_at (read s) after n) (sides c) st.rest
           (record { opened = others; made = made; rest = rest_after (problem (read s)) (node_at (read s) after n).root st.rest })
       turn_makes =
-          turn_is (some c) first
+          turn_is (Some c) first
           ∙ ap (expand (problem (read s)) (read s).limit cheapest st choice) (sides_are c)
           ∙ sym (one_at_a_time (problem (read s)) (read s).limit cheapest st choice (sides c) (omega (arith, held.number, held.within)))
           ∙ rw (same_node, taken.0, held.number)
@@ -250,12 +250,12 @@ module _ (s : List ℕ) (ok : cause s ≡ 0) (work : List ℕ) (made latest k : 
     same_first : (o : Option Collision) → first ≡ o → first_collision (read s).count (read s).horizon (node_at (read s) (with_key (read s).limit n closed_key work) n).paths ≡ o
     same_first o e = ap (λ w. first_collision (read s).count (read s).horizon (node_at (read s) w n).paths) (sym took.is) ∙ e
 
-    pub took_plan : first ≡ none → TurnedTo (read s) closed made (Plan n cost) (turn (problem (read s)) (read s).limit cheapest st)
-    took_plan e = rw took.is (turn_plan s ok work made latest k st turning (room_of s ok work room) n cost took.inside took.taken (same_first none e))
+    pub took_plan : first ≡ None → TurnedTo (read s) closed made (Plan n cost) (turn (problem (read s)) (read s).limit cheapest st)
+    took_plan e = rw took.is (turn_plan s ok work made latest k st turning (room_of s ok work room) n cost took.inside took.taken (same_first None e))
 
-    module _ (c : Collision) (e : first ≡ some c) where
+    module _ (c : Collision) (e : first ≡ Some c) where
       pub took_good : InRange (read s) (sides c).0 × InRange (read s) (sides c).1
-      took_good = sides_good s ok work made latest k st turning (room_of s ok work room) n cost took.inside took.taken c (same_first (some c) e)
+      took_good = sides_good s ok work made latest k st turning (room_of s ok work room) n cost took.inside took.taken c (same_first (Some c) e)
 
       pub took_turned : (after : List ℕ) (r : Turned)
           → ((opened : Nodes) (rest : List (List ℕ)) → Held (read s) closed made latest (record { opened = opened; made = made; rest = rest })
@@ -263,5 +263,5 @@ module _ (s : List ℕ) (ok : cause s ≡ 0) (work : List ℕ) (made latest k : 
           → TurnedTo (read s) after made r (turn (problem (read s)) (read s).limit cheapest st)
       took_turned after r says =
           subst (TurnedTo (read s) after made r)
-          (sym (turn_makes s ok work made latest k st turning (room_of s ok work room) n cost took.inside took.taken c (same_first (some c) e) ∙ rw took.is refl))
+          (sym (turn_makes s ok work made latest k st turning (room_of s ok work room) n cost took.inside took.taken c (same_first (Some c) e) ∙ rw took.is refl))
           (says (opened_at (read s) (read s).limit closed made) st.rest took_held)

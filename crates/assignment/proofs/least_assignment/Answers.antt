@@ -2,7 +2,7 @@
 use Prim.Native.Nat.{ℕ}
 use mathlib.Core.Path.{◌≡◌, subst}
 use mathlib.Core.List.{List}
-use mathlib.Core.Option.{none}
+use Rattle.std.specs.Prelude.{None}
 use borrow.Author.Tests.{not-true, not-false}
 use Rattle.deck.specs.Assignments.{least_assignment}
 use Rattle.deck.specs.Calls.{assignment_cause}
@@ -44,7 +44,7 @@ returns-then-not-first c =
     let table = w.args.table.now in
     let e = subst (λ (k : ℕ). Ensured k table c.without-then-not-first.result) w.wide-n.ensures.0
     (none_found n table c.without-then-not-first.result c.without-then-not-first.ensures passed
-    (subst (λ (l : List ℕ). least_assignment n l ≡ none) c.filled-t.ensures (not_found n _ _ c.first_priced-f.result.candidate c.first_priced-f.ensures (not-true _ c.if-not-first.true)))) in
+    (subst (λ (l : List ℕ). least_assignment n l ≡ None) c.filled-t.ensures (not_found n _ _ c.first_priced-f.result.candidate c.first_priced-f.ensures (not-true _ c.if-not-first.true)))) in
     record { call = e.0; meant = e.1 }
 
 pub priced-requires : goal.priced-requires

@@ -1,6 +1,6 @@
 -- `turns::turn` meets its contract: the cheapest open node is the plan, or the nodes of its expansion are made. Assumes nothing.
 use mathlib.Core.Path.{◌≡◌, refl, sym, subst, ◌∙◌}
-use mathlib.Core.Option.{some}
+use Rattle.std.specs.Prelude.{Some}
 use Prim.Native.Nat.{ℕ}
 use native.Mathlib.Omega.{arith}
 use Rattle.deck.specs.Sheet.{read}
@@ -71,7 +71,7 @@ expanded-requires-clause-given c =
     let took = λ (st : St) (k : ℕ) (turning : Turning (read c.args.s.now) c.args.work.now c.args.made c.args.latest k st).
     closed_is_taken c.args.s.now c.requires.given.0.accepted c.args.work.now c.args.made c.args.latest k st turning _ c.limit-limit.ensures.value _ c.cheapest.ensures.chosen
     c.cheapest.ensures.inside _ _ c.in-Open.is _ c.close.ensures.closed in
-    let first : first_collision (read c.args.s.now).count (read c.args.s.now).horizon (node_at (read c.args.s.now) c.close.new.work c.in-Open.n).paths ≡ some c.in-Found.c = found_is _ _ (sym c.in-Found.is ∙ c.collision_of.ensures) in
+    let first : first_collision (read c.args.s.now).count (read c.args.s.now).horizon (node_at (read c.args.s.now) c.close.new.work c.in-Open.n).paths ≡ Some c.in-Found.c = found_is _ _ (sym c.in-Found.is ∙ c.collision_of.ensures) in
     let s = c in
     let st = s.requires.by_index.0 in
     let k = s.requires.by_index.1 in
@@ -91,7 +91,7 @@ expanded-requires-clause-node_at c =
     let took = λ (st : St) (k : ℕ) (turning : Turning (read c.args.s.now) c.args.work.now c.args.made c.args.latest k st).
     closed_is_taken c.args.s.now c.requires.given.0.accepted c.args.work.now c.args.made c.args.latest k st turning _ c.limit-limit.ensures.value _ c.cheapest.ensures.chosen
     c.cheapest.ensures.inside _ _ c.in-Open.is _ c.close.ensures.closed in
-    let first : first_collision (read c.args.s.now).count (read c.args.s.now).horizon (node_at (read c.args.s.now) c.close.new.work c.in-Open.n).paths ≡ some c.in-Found.c = found_is _ _ (sym c.in-Found.is ∙ c.collision_of.ensures) in
+    let first : first_collision (read c.args.s.now).count (read c.args.s.now).horizon (node_at (read c.args.s.now) c.close.new.work c.in-Open.n).paths ≡ Some c.in-Found.c = found_is _ _ (sym c.in-Found.is ∙ c.collision_of.ensures) in
     let s = c in
     let st = s.requires.by_index.0 in
     let k = s.requires.by_index.1 in
@@ -106,7 +106,7 @@ returns-clause-turned c =
     let took = λ (st : St) (k : ℕ) (turning : Turning (read c.args.s.now) c.args.work.now c.args.made c.args.latest k st).
     closed_is_taken c.args.s.now c.requires.given.0.accepted c.args.work.now c.args.made c.args.latest k st turning _ c.limit-limit.ensures.value _ c.cheapest.ensures.chosen
     c.cheapest.ensures.inside _ _ c.in-Open.is _ c.close.ensures.closed in
-    let first : first_collision (read c.args.s.now).count (read c.args.s.now).horizon (node_at (read c.args.s.now) c.close.new.work c.in-Open.n).paths ≡ some c.in-Found.c = found_is _ _ (sym c.in-Found.is ∙ c.collision_of.ensures) in
+    let first : first_collision (read c.args.s.now).count (read c.args.s.now).horizon (node_at (read c.args.s.now) c.close.new.work c.in-Open.n).paths ≡ Some c.in-Found.c = found_is _ _ (sym c.in-Found.is ∙ c.collision_of.ensures) in
     let s = c in
     let expanded = c.expanded in λ st k turning.
     took_turned s.args.s.now s.requires.given.0.accepted s.args.work.now s.args.made s.args.latest k st turning c.close.new.work _ _
@@ -114,6 +114,6 @@ returns-clause-turned c =
 
 pub returns-clause-lows : goal.returns-clause-lows
 returns-clause-lows c =
-    let first : first_collision (read c.args.s.now).count (read c.args.s.now).horizon (node_at (read c.args.s.now) c.close.new.work c.in-Open.n).paths ≡ some c.in-Found.c = found_is _ _ (sym c.in-Found.is ∙ c.collision_of.ensures) in
+    let first : first_collision (read c.args.s.now).count (read c.args.s.now).horizon (node_at (read c.args.s.now) c.close.new.work c.in-Open.n).paths ≡ Some c.in-Found.c = found_is _ _ (sym c.in-Found.is ∙ c.collision_of.ensures) in
     let s = c in
     let expanded = c.expanded in lows_kept expanded.ensures.same.keys (lows_limit _ c.limit-limit.ensures.value c.close.ensures.lows)
