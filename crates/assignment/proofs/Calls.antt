@@ -3,13 +3,13 @@ use Prim.Native.Nat.{ℕ, zero, suc, ◌-◌, ◌*◌, ◌≤◌, ◌<◌}
 use mathlib.Core.Path.{◌≡◌, refl, sym, ap}
 use mathlib.Core.Logic.{◌≢◌}
 use mathlib.Core.List.{List}
+use Rattle.deck.specs.declared.cause.Cause.TheVariants.{BadCount}
 use Rattle.std.specs.Prelude.{Option, None, Some}
 use native.Mathlib.Omega.{arith}
 use lib.ListN.{length, replicate, get_or-replicate}
 use lib.Seq.{take_at}
 use lib.IntN.{pos}
 use borrow.Author.Tests.{le-leb, lt-leb, eq-eqb, ne_eqb}
-use Rattle.deck.specs.Causes.{bad_count}
 use Rattle.deck.specs.Assignments.{least_assignment}
 use Rattle.deck.specs.Calls.{assignment_cause, least_for, assignment_kind, assignment_tasks, ZeroFrom, PricesOf, AssignmentCall}
 use Rattle.deck.specs.Numbers.{assignment_numbers}
@@ -21,19 +21,19 @@ use Rattle.assignment.specs.Meant.{Meant}
 
 -- THE CAUSE
 module _ (m : ℕ) (table : List ℕ) where
-  pub count_low : m < 1 → assignment_cause m table ≡ bad_count
+  pub count_low : m < 1 → assignment_cause m table ≡ BadCount
   unfolding assignment_cause
   count_low h = rw (lt-leb 1 m h)
 
-  pub count_high : 12 < m → assignment_cause m table ≡ bad_count
+  pub count_high : 12 < m → assignment_cause m table ≡ BadCount
   unfolding assignment_cause
   count_high h = rw (le-leb 1 m (omega arith), lt-leb m 12 h)
 
-  pub wrong_size : 1 ≤ m → m ≤ 12 → length table ≢ m * m → assignment_cause m table ≡ bad_count
+  pub wrong_size : 1 ≤ m → m ≤ 12 → length table ≢ m * m → assignment_cause m table ≡ BadCount
   unfolding assignment_cause
   wrong_size h k n = rw (le-leb 1 m h, le-leb m 12 k, ne_eqb (length table) (m * m) n)
 
-  pub accepted : 1 ≤ m → m ≤ 12 → length table ≡ m * m → assignment_cause m table ≡ 0
+  pub accepted : 1 ≤ m → m ≤ 12 → length table ≡ m * m → assignment_cause m table ≡ None
   unfolding assignment_cause
   accepted h k e = rw (le-leb 1 m h, le-leb m 12 k, eq-eqb (length table) (m * m) e)
 
@@ -64,9 +64,9 @@ module _ (m : ℕ) (table : List ℕ) where
   no_prices : ZeroFrom 0 (replicate 12 (pos 0))
   no_prices k l h = get_or-replicate 12 k (pos 0) (pos 0) h
 
-  pub refused : (r : AssignmentAnswer) → r ≡ without_tasks (Refused bad_count) → c ≡ bad_count → Ensured r
+  pub refused : (r : AssignmentAnswer) → r ≡ without_tasks (Refused BadCount) → c ≡ BadCount → Ensured r
   unfolding least_for assignment_kind assignment_tasks
-  refused r q e = rw q (ensured (without_tasks (Refused bad_count)) (rw e refl) (rw e refl) (rw e (no_prices, no_prices)))
+  refused r q e = rw q (ensured (without_tasks (Refused BadCount)) (rw e refl) (rw e refl) (rw e (no_prices, no_prices)))
 
   pub none_found : (r : AssignmentAnswer) → r ≡ without_tasks NoAssignment → c ≡ 0 → least_assignment m table ≡ None → Ensured r
   unfolding least_for assignment_kind assignment_tasks

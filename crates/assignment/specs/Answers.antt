@@ -1,8 +1,9 @@
 -- What the call answers: the whole answer, and prices that serve it. Assumes nothing.
+use Rattle.deck.specs.Numbers.{no_tasks}
 use Rattle.std.specs.Prelude.{ℕ, ◌+◌, ◌/◌, ◌≤◌, ◌<◌, ◌≡◌, Bool, cond, List, get_or, replicate, ℤ, pos, neg_ℤ, ◌+ℤ◌, ◌-ℤ◌}
 use Rattle.std.specs.Int.Signed.{mag}
 use Rattle.deck.specs.Assignments.{entry_at, least_assignment, Priced}
-use Rattle.deck.specs.Calls.{no_tasks, assignment_kind, assignment_tasks, ZeroFrom, PricesOf}
+use Rattle.deck.specs.Calls.{assignment_kind, assignment_tasks, ZeroFrom, PricesOf}
 use Rattle.deck.specs.declared.AssignmentKind.{AssignmentKind}
 use Rattle.deck.specs.declared.AssignmentAnswer.{AssignmentAnswer}
 use Rattle.meaning.specs.Meaning.{◌at◌}

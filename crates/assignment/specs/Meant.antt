@@ -1,5 +1,5 @@
 -- What an answer of the least-assignment call says of assignments, by the meaning. Assumes nothing.
-use Rattle.std.specs.Prelude.{ℕ, ◌≡◌, ◌≢◌, ◌⊎◌, List, take}
+use Rattle.std.specs.Prelude.{ℕ, ◌≡◌, ◌≢◌, ◌⊎◌, List, take, None}
 use Rattle.deck.specs.Assignments.{sum_of}
 use Rattle.deck.specs.Calls.{assignment_cause}
 use Rattle.deck.specs.declared.AssignmentKind.{AssignmentKind}
@@ -13,6 +13,6 @@ First m table a n = Unbarred m table a × (n ≡ sum_of m table a) × ((b : List
 -- "It answers the first in this order with its sum, or none exactly if every assignment uses a barred entry": of a call that is
 -- accepted, by the first m of the tasks; else the cause. The cases exclude each other
 abbrev pub Meant : (m : ℕ) (table : List ℕ) → AssignmentKind → (tasks : List ℕ) → Type 0
-Meant m table (Least n) tasks = (assignment_cause m table ≡ 0) × First m table (take m tasks) n
-Meant m table NoAssignment tasks = (assignment_cause m table ≡ 0) × AllBarred m table
-Meant m table (Refused c) tasks = (c ≡ assignment_cause m table) × (c ≢ 0)
+Meant m table (Least n) tasks = (assignment_cause m table ≡ None) × First m table (take m tasks) n
+Meant m table NoAssignment tasks = (assignment_cause m table ≡ None) × AllBarred m table
+Meant m table (Refused c) tasks = (c ≡ assignment_cause m table) × (c ≢ None)

@@ -3,6 +3,7 @@ use Prim.Native.Nat.{ℕ, zero, suc, ◌≤◌}
 use mathlib.Core.Path.{◌≡◌, refl, sym, ap, ◌∙◌}
 use mathlib.Core.List.{List}
 use lib.ListN.{length}
+use Rattle.std.specs.Prelude.{None}
 use Rattle.deck.specs.Sheet.{read, sheet_cause}
 use Rattle.deck.specs.Calls.{search_cause, search_answer_for, search_answer, plan_words, SearchCall}
 use Rattle.deck.specs.Numbers.{search_numbers}
@@ -18,7 +19,7 @@ use Rattle.board_lines.proofs.Standing.{stands, empty}
 use Rattle.board_lines.specs.declared.Line.{Line}
 use Rattle.board.specs.Call.{board_lines, BoardCall, BoardRight, Written}
 
-accepted_written : (s : List ℕ) (out : ℕ) → sheet_cause s ≡ 0 → plan_words (read s) ≤ out → (k : SearchKind) → Written s out k
+accepted_written : (s : List ℕ) (out : ℕ) → sheet_cause s ≡ None → plan_words (read s) ≤ out → (k : SearchKind) → Written s out k
 accepted_written s out ok words Plan = (ok, words)
 accepted_written s out ok words NoPlan = tt
 accepted_written s out ok words Spent = tt
@@ -33,7 +34,7 @@ answer_written s work out = go (search_cause s work out) refl
     go (suc c) e = tt
 
 -- where the match found a plan
-pub plan_written : (s : List ℕ) (out : ℕ) (k : SearchKind) → k ≡ Plan → Written s out k → (sheet_cause s ≡ 0) × (plan_words (read s) ≤ out)
+pub plan_written : (s : List ℕ) (out : ℕ) (k : SearchKind) → k ≡ Plan → Written s out k → (sheet_cause s ≡ None) × (plan_words (read s) ≤ out)
 plan_written s out k e w = rw e at w
 
 -- the lines by the kind that the match found

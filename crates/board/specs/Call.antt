@@ -1,5 +1,5 @@
 -- Document 02, "The gate board": the whole result of the call. Assumes nothing.
-use Rattle.std.specs.Prelude.{ℕ, ◌≤◌, ◌≡◌, List, length}
+use Rattle.std.specs.Prelude.{ℕ, ◌≤◌, ◌≡◌, List, length, None}
 use Rattle.deck.specs.Sheet.{Sheet, read, sheet_cause}
 use Rattle.deck.specs.Calls.{plan_words, search_answer, SearchCall}
 use Rattle.deck.specs.declared.SearchKind.{SearchKind}
@@ -26,7 +26,7 @@ BoardRight d a words lines = BoardStands d a.kind a.tasks words lines
 
 -- where the answer says plan, the sheet is accepted, and the output has the words of its paths
 abbrev pub Written : List ℕ → ℕ → SearchKind → Type 0
-Written s out Plan = (sheet_cause s ≡ 0) × (plan_words (read s) ≤ out)
+Written s out Plan = (sheet_cause s ≡ None) × (plan_words (read s) ≤ out)
 Written s out NoPlan = Unit {0}
 Written s out Spent = Unit {0}
 Written s out (Refused c) = Unit {0}

@@ -1,8 +1,9 @@
 -- Worked boards: of a sheet, of an answer's kind and task list and of the words of output, the twelve lines as numbers. The answers to
 -- the starred rounds are those of `deck`. Assumes nothing.
+use Rattle.deck.specs.Numbers.{no_tasks}
 use Rattle.std.specs.Prelude.{ℕ, ◌-◌, ◌≡◌, List, [], ◌∷◌, ◌++◌, length, replicate}
 use Rattle.deck.specs.Sheet.{read}
-use Rattle.deck.specs.Calls.{task_list, no_tasks}
+use Rattle.deck.specs.Calls.{task_list}
 use Rattle.deck.specs.Rounds.{sheet, crossing}
 use Rattle.deck.specs.declared.SearchKind.{SearchKind}
 use Rattle.deck.specs.declared.SearchKind.TheVariants.{Plan, NoPlan, Spent, Refused}

@@ -1,5 +1,5 @@
 -- What is tested of the bounds: they fall by at most one with each step, and not at all where a goal is visited. Assumes nothing.
-use Rattle.std.specs.Prelude.{ℕ, suc, ◌+◌, ◌*◌, ◌≤◌, ◌<◌, ◌≡◌, List, length, get_or, T}
+use Rattle.std.specs.Prelude.{ℕ, suc, ◌+◌, ◌*◌, ◌≤◌, ◌<◌, ◌≡◌, List, length, get_or, T, None}
 use Rattle.deck.specs.Sheet.{Sheet, read, goals_of, last_goal, count_of, cause}
 use Rattle.deck.specs.declared.Task.{Task}
 use Rattle.kernel.specs.Parts.{step_free}
@@ -19,7 +19,7 @@ pub record Layer (mask : List ℕ) (w h goal base : ℕ) (x : List ℕ) : Type 0
 
 -- an accepted sheet with its mask, and a task of it
 pub record Given (s : List ℕ) (j : Task) (mask : List ℕ) : Type 0 where
-  pub accepted : cause s ≡ 0
+  pub accepted : cause s ≡ None
   pub task_in : j.0 < count_of s
   pub masked : MaskOf (read s) mask
 

@@ -2,7 +2,7 @@
 // is proved of the search. Its distances are tested, and the bounds of a label that failed the test would be 0.
 #![tactic(auto)]
 
-ghost use Rattle.std.specs.Prelude.{◌≡◌, true, cond, suc, ◌+◌, ◌-◌, ◌*◌, ◌/◌, ◌%◌, ◌<◌, ◌≤◌, max, min, length, get_or, eqb};
+ghost use Rattle.std.specs.Prelude.{◌≡◌, true, cond, suc, ◌+◌, ◌-◌, ◌*◌, ◌/◌, ◌%◌, ◌<◌, ◌≤◌, max, min, length, get_or, eqb, None};
 ghost use Rattle.deck.specs.Sheet.{read, count_of, goals_of, cause};
 ghost use Rattle.bars.specs.Padded.{pad_of, MaskOf};
 ghost use Rattle.layers.specs.Fill.{Filled};
@@ -257,7 +257,7 @@ fn level(s: &[u8], j: Task, mask: &[u8; 1156], goals: &[usize; 8], k: usize, tab
 
 // The table of bounds: 1024 bytes for each label 0 to 8, by place.
 pub fn bounds(s: &[u8], j: Task, mask: &[u8; 1156], table: &mut [u8])
-    requires { (cause s.now ≡ 0) × (j.0 < count_of s.now) × MaskOf (read s.now) mask.now × (length table.old ≡ 9216) }
+    requires { (cause s.now ≡ None) × (j.0 < count_of s.now) × MaskOf (read s.now) mask.now × (length table.old ≡ 9216) }
     ensures { Low (read s.now) j table.new }
 {
     let n = sheet::goal_count(s, j);

@@ -4,6 +4,7 @@ use Prim.Native.Nat.{ℕ, ◌≤◌, ◌<◌}
 use mathlib.Core.Path.{◌≡◌, sym, ap, subst, ◌∙◌}
 use mathlib.Core.Bool.{Bool, true, false}
 use mathlib.Core.List.{List}
+use Rattle.deck.specs.Numbers.{no_tasks}
 use Rattle.std.specs.Prelude.{None, Some}
 use native.Mathlib.Nat.{mul-le-mul_left}
 use native.Mathlib.Decide.{ℕ_discrete}
@@ -12,7 +13,7 @@ use lib.ListN.{length, take}
 use lib.Seq.{get_or-take, length-take-le}
 use Rattle.deck.specs.Lists.{below}
 use Rattle.deck.specs.Assignments.{barred, entry_at, sum_of, least_assignment}
-use Rattle.deck.specs.Calls.{task_list, no_tasks}
+use Rattle.deck.specs.Calls.{task_list}
 use Rattle.meaning.specs.Meaning.{◌at◌, Assignment}
 use Rattle.meaning.proofs.Lists.{sum_same, mem_below}
 use Rattle.prices.specs.Matching.{cost, AtMost, Tight}

@@ -1,8 +1,9 @@
 -- A part's first assignment with its sum, and the order of two of these. Assumes nothing.
+use Rattle.deck.specs.Numbers.{no_tasks}
 use Rattle.std.specs.Prelude.{ℕ, zero, suc, Bool, true, false, cond, List, ltb}
 use Rattle.std.specs.Prelude.{Option, None, Some}
 use Rattle.deck.specs.Assignments.{sum_of}
-use Rattle.deck.specs.Calls.{task_list, no_tasks}
+use Rattle.deck.specs.Calls.{task_list}
 use Rattle.meaning.specs.Meaning.{◌at◌}
 use Rattle.candidates.specs.declared.Candidate.{Candidate}
 

@@ -4,13 +4,13 @@ use mathlib.Core.Path.{◌≡◌, refl, sym, ap, subst, ◌∙◌}
 use mathlib.Core.Logic.{◌⊎◌, inl, inr}
 use mathlib.Core.Bool.{false}
 use mathlib.Core.List.{List}
+use Rattle.deck.specs.declared.cause.Cause.TheVariants.{BadCount, WrongLength}
 use Rattle.std.specs.Prelude.{Option, None, Some}
 use native.Mathlib.Numerals.{add-one}
 use native.Mathlib.Omega.{arith}
 use lib.ListN.{length}
 use lib.Dec.{leb}
 use borrow.Author.Tests.{le-leb, lt-leb, eq-eqb, ne_eqb}
-use Rattle.deck.specs.Causes.{bad_count, wrong_length}
 use Rattle.deck.specs.Lists.{within, pieces}
 use Rattle.deck.specs.Collisions.{first_collision}
 use Rattle.deck.specs.Calls.{collision_cause, collision_for, collision_found, collision_call}
@@ -32,7 +32,7 @@ module _ (m h : ℕ) (ws : List ℕ) where
   unfolding collision_call collision_for collision_found
   meant = by_cause (collision_cause m h ws) refl
     where
-      found : (o : Option Collision) → collision_cause m h ws ≡ 0 → FirstMeant m h (pieces m (suc h) ws) o → Meant m h ws (collision_found o)
+      found : (o : Option Collision) → collision_cause m h ws ≡ None → FirstMeant m h (pieces m (suc h) ws) o → Meant m h ws (collision_found o)
       found None z k = (z, k)
       found (Some c) z k = (z, k)
 
@@ -47,14 +47,14 @@ module _ (m h : ℕ) (ws : List ℕ) where
   outside (inl a) = rw (lt-leb 1 m a)
   outside (inr a) = rw (lt-leb m 12 a) (and_false (leb 1 m))
 
-  pub count_refused : (m < 1) ⊎ (12 < m) → Says (Refused bad_count)
+  pub count_refused : (m < 1) ⊎ (12 < m) → Says (Refused BadCount)
   unfolding collision_call collision_cause collision_for
-  count_refused a = says (Refused bad_count) (rw (outside a))
+  count_refused a = says (Refused BadCount) (rw (outside a))
 
   module _ (a : 1 ≤ m) (b : m ≤ 12) where
-    pub length_refused : (length ws ≡ m * (h + 1) → ⊥) → Says (Refused wrong_length)
+    pub length_refused : (length ws ≡ m * (h + 1) → ⊥) → Says (Refused WrongLength)
     unfolding collision_call collision_cause collision_for
-    length_refused n = says (Refused wrong_length) (rw (le-leb 1 m a, le-leb m 12 b, ne_eqb (length ws) (m * suc h) (λ e. n (e ∙ ap (λ k. m * k) (sym (add-one h))))))
+    length_refused n = says (Refused WrongLength) (rw (le-leb 1 m a, le-leb m 12 b, ne_eqb (length ws) (m * suc h) (λ e. n (e ∙ ap (λ k. m * k) (sym (add-one h))))))
 
     pub accepted : {r : CollisionAnswer} → length ws ≡ m * (h + 1) → r ≡ collision_found (first_collision m h (pieces m (suc h) ws)) → Says r
     unfolding collision_call collision_cause collision_for

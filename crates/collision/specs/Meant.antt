@@ -1,5 +1,5 @@
 -- What an answer of the first-collision call says of the paths, by the meaning. Assumes nothing.
-use Rattle.std.specs.Prelude.{ℕ, suc, ◌≡◌, ◌≢◌, List}
+use Rattle.std.specs.Prelude.{ℕ, suc, ◌≡◌, ◌≢◌, List, None}
 use Rattle.deck.specs.Lists.{pieces}
 use Rattle.deck.specs.Calls.{collision_cause}
 use Rattle.deck.specs.declared.Collision.{Collision}
@@ -9,6 +9,6 @@ use Rattle.meaning.specs.Meaning.{Collided, FirstCollision}
 
 -- of a call that is accepted the first of the collisions, or that there is none; else the cause
 abbrev pub Meant : ℕ → ℕ → List ℕ → CollisionAnswer → Type 0
-Meant m h ws (Found c) = (collision_cause m h ws ≡ 0) × FirstCollision m h (pieces m (suc h) ws) c
-Meant m h ws NoCollision = (collision_cause m h ws ≡ 0) × ((c : Collision) → ¬ Collided m h (pieces m (suc h) ws) c)
-Meant m h ws (Refused n) = (n ≡ collision_cause m h ws) × (n ≢ 0)
+Meant m h ws (Found c) = (collision_cause m h ws ≡ None) × FirstCollision m h (pieces m (suc h) ws) c
+Meant m h ws NoCollision = (collision_cause m h ws ≡ None) × ((c : Collision) → ¬ Collided m h (pieces m (suc h) ws) c)
+Meant m h ws (Refused n) = (n ≡ collision_cause m h ws) × (n ≢ None)

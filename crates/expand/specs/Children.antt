@@ -1,6 +1,6 @@
 -- The child of node n by one more constraint: what it is made of, and the task and the path of the carrier that the constraint binds.
 -- Assumes nothing.
-use Rattle.std.specs.Prelude.{ℕ, ◌<◌, ◌≤◌, ◌≡◌, List, ◌∷◌, length}
+use Rattle.std.specs.Prelude.{ℕ, ◌<◌, ◌≤◌, ◌≡◌, List, ◌∷◌, length, None}
 use Rattle.std.specs.Prelude.{Option}
 use Rattle.deck.specs.Sheet.{Sheet, read, cause, carrier, task}
 use Rattle.deck.specs.Paths.{least_path}
@@ -19,7 +19,7 @@ use Rattle.expand.specs.Held.{Holding, NodeAt}
 -- of an accepted sheet with its mask, a workspace with room and the lower bounds of its tasks: node n is held and its paths are
 -- least, and c is a constraint of the sheet that binds carrier i
 pub record Branch (s mask work bounds : List ℕ) (made latest n : ℕ) (i : Carrier) (c : Constraint) : Type 0 where
-  pub accepted : cause s ≡ 0
+  pub accepted : cause s ≡ None
   pub masked : MaskOf (read s) mask
   pub room : workspace_for (read s) ≤ length work
   pub held : Holding (read s) work made latest

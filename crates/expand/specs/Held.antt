@@ -1,5 +1,5 @@
 -- What the workspace holds of the search's state, and what making nodes comes to. Assumes nothing.
-use Rattle.std.specs.Prelude.{ℕ, ◌+◌, ◌<◌, ◌≤◌, ◌≡◌, List, length}
+use Rattle.std.specs.Prelude.{ℕ, ◌+◌, ◌<◌, ◌≤◌, ◌≡◌, List, length, None}
 use Rattle.deck.specs.Sheet.{Sheet, read, cause}
 use Rattle.deck.specs.Assignments.{table_of}
 use Rattle.deck.specs.Search.{Node, State, Turn, done, more, spent}
@@ -21,7 +21,7 @@ use Rattle.expand.specs.declared.Grown.TheVariants.{Made, Spent}
 
 -- an accepted sheet, its mask, the working copy of its table, a workspace with room, and the lower bounds of its tasks
 pub record Given (s mask table work bounds : List ℕ) : Type 0 where
-  pub accepted : cause s ≡ 0
+  pub accepted : cause s ≡ None
   pub masked : MaskOf (read s) mask
   pub table_is : copied (read s).count table ≡ table_of (read s)
   pub room : workspace_for (read s) ≤ length work

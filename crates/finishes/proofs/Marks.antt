@@ -12,6 +12,7 @@ use lib.ListN.{length, get_or, set}
 use lib.Seq.{get_or-set_same, get_or-set_other}
 use lib.Dec.{T, eqb, ltb}
 use borrow.Author.Tests.{lt-ltb, le-ltb, eq-eqb, ne_eqb, ltb-true, ltb-false, eqb-true, eqb-false}
+use Rattle.std.specs.Prelude.{None}
 use Rattle.deck.specs.Sheet.{Sheet, read, count_of, carrier, start_of, last_goal, free, cause}
 use Rattle.deck.specs.Assignments.{barred}
 use Rattle.deck.specs.declared.Task.{Task}
@@ -69,7 +70,7 @@ module _ (d : Sheet) (i : ℕ) (j : Task) where
       go false ea true eb = old (eqb-false e barred ea)
       go false ea false eb = old (eqb-false e barred ea)
 
-module _ (s : List ℕ) (ok : cause s ≡ 0) (i : ℕ) (j : Task) (a : i < count_of s) (b : j.0 < count_of s) where
+module _ (s : List ℕ) (ok : cause s ≡ None) (i : ℕ) (j : Task) (a : i < count_of s) (b : j.0 < count_of s) where
   abbrev d : Sheet
   d = read s
 
@@ -102,7 +103,7 @@ module _ (s : List ℕ) (ok : cause s ≡ 0) (i : ℕ) (j : Task) (a : i < count
           }) (omega (arith, f.0)))
 
 -- the column after its last layer
-module _ (s : List ℕ) (ok : cause s ≡ 0) (j : Task) (b : j.0 < count_of s) (column : List ℕ) where
+module _ (s : List ℕ) (ok : cause s ≡ None) (j : Task) (b : j.0 < count_of s) (column : List ℕ) where
   pub column_full : (k : ℕ) → k ≤ (read s).horizon + 1 → Column (read s) j k column → ((i : ℕ) → i < count_of s → get_or column i 0 ≢ barred) → Whole (read s) j column
   column_full k l c full i h = marked_all s ok i j h b k (get_or column i 0) l (c i h) (λ e. absurd (full i h e))
 

@@ -9,6 +9,7 @@ use native.Mathlib.Numerals.{add-one}
 use native.Mathlib.Omega.{arith}
 use lib.ListN.{length, get_or, replicate, length-replicate, get_or-replicate, get_or-eq_default}
 use lib.Dec.{T}
+use Rattle.std.specs.Prelude.{None}
 use Rattle.deck.specs.Sheet.{Sheet, read, area, count_of, carrier, start_of, goals_of, last_goal, cause}
 use Rattle.deck.specs.Assignments.{barred}
 use Rattle.deck.specs.Calls.{constraints_of, good_records}
@@ -44,7 +45,7 @@ zeros n q = ⊎_elim (λ h. get_or-replicate {A = ℕ} n q 0 0 h)
 pub chained_none : (i : ℕ) (links : List ℕ) → Chained [] i (replicate 256 0) links
 chained_none i links = record { size = length-replicate {A = ℕ} 256 0; room = omega arith; head = λ t h. zeros 256 t; link = λ k h. absurd (not-suc-le-zero h) }
 
-module _ (s : List ℕ) (ok : cause s ≡ 0) (j : Task) where
+module _ (s : List ℕ) (ok : cause s ≡ None) (j : Task) where
   abbrev d : Sheet
   d = read s
 

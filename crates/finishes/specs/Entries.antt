@@ -1,5 +1,5 @@
 -- The entries of the table as one backward pass for each task finds them. Assumes nothing.
-use Rattle.std.specs.Prelude.{ℕ, ◌≤◌, ◌<◌, ◌≡◌, ◌≢◌, true, cond, ◌&&◌, List, [], get_or, eqb, ltb}
+use Rattle.std.specs.Prelude.{ℕ, ◌≤◌, ◌<◌, ◌≡◌, ◌≢◌, true, cond, ◌&&◌, List, [], get_or, eqb, ltb, None}
 use Rattle.deck.specs.Sheet.{Sheet, read, count_of, carrier, start_of, cause}
 use Rattle.deck.specs.Paths.{least_path}
 use Rattle.deck.specs.Assignments.{barred, entry_of}
@@ -45,7 +45,7 @@ Whole d j column = (i : ℕ) → i < d.count → get_or column i 0 ≡ entry_for
 
 -- what the pass of one task is given
 pub record Serves (s : List ℕ) (j : Task) (mask doors starts goals : List ℕ) : Type 0 where
-  pub accepted : cause s ≡ 0
+  pub accepted : cause s ≡ None
   pub task_in : j.0 < count_of s
   pub masked : MaskOf (read s) mask
   pub given : Doors mask (read s).width (read s).height true doors

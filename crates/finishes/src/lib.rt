@@ -3,7 +3,7 @@
 // from the last goal at which its start has every goal. Two layers in turn are enough.
 #![tactic(auto)]
 
-ghost use Rattle.std.specs.Prelude.{◌≡◌, ◌≢◌, true, false, ℕ, suc, ◌+◌, ◌*◌, ◌%◌, ◌<◌, ◌≤◌, length, get_or, set};
+ghost use Rattle.std.specs.Prelude.{◌≡◌, ◌≢◌, true, false, ℕ, suc, ◌+◌, ◌*◌, ◌%◌, ◌<◌, ◌≤◌, length, get_or, set, None};
 ghost use Rattle.deck.specs.Sheet.{read, count_of, cause, task};
 ghost use Rattle.deck.specs.Assignments.{barred, table_of};
 ghost use Rattle.bars.specs.Padded.{Holds, MaskOf};
@@ -32,7 +32,7 @@ fn narrow(x: usize) -> u16
 
 // The starts on the padded grid.
 fn starts_of(s: &[u8]) -> [usize; 12]
-    requires { cause s.now ≡ 0 }
+    requires { cause s.now ≡ None }
     ensures { Starts s.now result }
 {
     let w = sheet::width(s);
@@ -113,7 +113,7 @@ fn mark(
 
 // The layer of the last goal itself.
 fn first_layer(s: &[u8], j: Task, goals: &[usize; 8]) -> [u8; 1156]
-    requires { (cause s.now ≡ 0) × (j.0 < count_of s.now) × Turned s.now j goals.now }
+    requires { (cause s.now ≡ None) × (j.0 < count_of s.now) × Turned s.now j goals.now }
     ensures { Holds (read s.now) result (steps (read s.now) j 0) }
 {
     let w = sheet::width(s);
@@ -144,7 +144,7 @@ fn next_layer(
     src: &[u8; 1156],
     dst: &mut [u8; 1156],
 )
-    requires { (cause s.now ≡ 0) × (j.0 < count_of s.now) × MaskOf (read s.now) mask.now × Turned s.now j goals.now × Doors mask.now (read s.now).width (read s.now).height true doors.now × (length dst.old ≡ 1156) }
+    requires { (cause s.now ≡ None) × (j.0 < count_of s.now) × MaskOf (read s.now) mask.now × Turned s.now j goals.now × Doors mask.now (read s.now).width (read s.now).height true doors.now × (length dst.old ≡ 1156) }
     ensures { (k : ℕ) → Holds (read s.now) src.now (steps (read s.now) j k) → Margin (read s.now).width (read s.now).height dst.old → Holds (read s.now) dst.new (steps (read s.now) j (suc k)) }
 {
     let w = sheet::width(s);
@@ -202,7 +202,7 @@ fn ends(
 
 // The column of the task j over the ways with these doors.
 fn column_by(s: &[u8], j: Task, mask: &[u8; 1156], doors: &[u8], starts: &[usize; 12]) -> [u16; 12]
-    requires { (cause s.now ≡ 0) × (j.0 < count_of s.now) × MaskOf (read s.now) mask.now × Starts s.now starts.now × Doors mask.now (read s.now).width (read s.now).height true doors.now }
+    requires { (cause s.now ≡ None) × (j.0 < count_of s.now) × MaskOf (read s.now) mask.now × Starts s.now starts.now × Doors mask.now (read s.now).width (read s.now).height true doors.now }
     ensures { Whole (read s.now) j result }
 {
     let goals = passes::goals_of(s, j);
@@ -246,7 +246,7 @@ fn column_by(s: &[u8], j: Task, mask: &[u8; 1156], doors: &[u8], starts: &[usize
 
 // The column of the task j.
 fn column(s: &[u8], j: Task, mask: &[u8; 1156], starts: &[usize; 12]) -> [u16; 12]
-    requires { (cause s.now ≡ 0) × (j.0 < count_of s.now) × MaskOf (read s.now) mask.now × Starts s.now starts.now }
+    requires { (cause s.now ≡ None) × (j.0 < count_of s.now) × MaskOf (read s.now) mask.now × Starts s.now starts.now }
     ensures { Whole (read s.now) j result }
 {
     let wide = sheet::width(s) + 2;
@@ -273,7 +273,7 @@ fn put_column(t: &mut [u16; 144], j: Task, m: usize, column: &[u16; 12])
 
 // The working copy of the sheet's table.
 pub fn table(s: &[u8], mask: &[u8; 1156]) -> [u16; 144]
-    requires { (cause s.now ≡ 0) × MaskOf (read s.now) mask.now }
+    requires { (cause s.now ≡ None) × MaskOf (read s.now) mask.now }
     ensures { copied (count_of s.now) result ≡ table_of (read s.now) }
 {
     let m = sheet::count(s);

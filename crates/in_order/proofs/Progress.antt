@@ -139,7 +139,7 @@ module _ (m : ℕ) (table work lists work' lists' : List ℕ) where
   unfolding listed_for
   refused r q e w l = rw (q, l) (record { cause = sym e; count = rw e; written = rw e; unwritten = λ n. w; low = omega arith })
 
-  pub accepted : (r : Count) (most : ℕ) → r.cause ≡ 0 → assignment_cause m table ≡ 0 → most ≡ room_for (length work) (length lists) → most ≤ 4096
+  pub accepted : (r : Count) (most : ℕ) → r.cause ≡ 0 → assignment_cause m table ≡ None → most ≡ room_for (length work) (length lists) → most ≤ 4096
       → Listing m table most r.count lists lists' → InOrderCall m table work lists r work' lists'
   unfolding listed_for
   accepted r most z e f h L = record {

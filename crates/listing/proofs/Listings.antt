@@ -6,6 +6,7 @@ use native.Mathlib.Omega.{arith}
 use lib.ListN.{length, take}
 use lib.Seq.{take_all}
 use borrow.Author.Tests.{eq-eqb, ne_eqb}
+use Rattle.std.specs.Prelude.{None}
 use Rattle.deck.specs.Lists.{pieces}
 use Rattle.deck.specs.Sheet.{read, sheet_cause, count_of, horizon_of}
 use Rattle.deck.specs.Listing.{decimal, text, carrier_lines, listing_for}
@@ -27,12 +28,12 @@ module _ (s : List ℕ) (a : SearchAnswer) (out : List ℕ) where
   listed_is (Refused c) ok = refl
 
   -- no line of a plan where the sheet is not accepted
-  pub plan_none : (b : List ℕ) → (sheet_cause s ≡ 0 → ⊥) → Wrote b 0 (listed s Plan a out) b 0
+  pub plan_none : (b : List ℕ) → (sheet_cause s ≡ None → ⊥) → Wrote b 0 (listed s Plan a out) b 0
   unfolding listed
   plan_none b bad = rw (ne_eqb (sheet_cause s) 0 bad) (wrote_none b 0 (omega arith))
 
   -- the first line, then those of the carriers
-  pub plan_all : {b c : List ℕ} {r : ℕ} {e : List ℕ} {o : ℕ} (m h : ℕ) → sheet_cause s ≡ 0 → m ≡ count_of s → h ≡ horizon_of s
+  pub plan_all : {b c : List ℕ} {r : ℕ} {e : List ℕ} {o : ℕ} (m h : ℕ) → sheet_cause s ≡ None → m ≡ count_of s → h ≡ horizon_of s
       → Wrote b 0 (text "plan " ++ decimal a.flowtime ++ text " nodes " ++ decimal a.nodes ++ text "\n") c r
       → Wrote c r (carrier_lines (read s) a.tasks (pieces m (suc h) out)) e o → Wrote b 0 (listed s Plan a out) e o
   unfolding listing_for

@@ -9,6 +9,7 @@ use lib.Dec.{ltb}
 use lib.ListN.{length, get_or, take, drop, length-append, length-take}
 use lib.Seq.{get_or-drop}
 use borrow.Author.Tests.{ltb-true, ltb-false}
+use Rattle.std.specs.Prelude.{None}
 use Rattle.deck.specs.Lists.{path_of, count_from, each, pieces}
 use Rattle.deck.specs.Sheet.{Sheet, read, sheet_cause, count_of, horizon_of, task}
 use Rattle.deck.specs.Paths.{finish_of}
@@ -80,7 +81,7 @@ pub record Fits (k : SearchKind) (a : SearchAnswer) : Type 0 where
   pub cause : SmallCause k
 
 module _ (s : List ℕ) (a : SearchAnswer) (out : List ℕ) (p : Words out) where
-  lines_size : sheet_cause s ≡ 0 → ((i : ℕ) → get_or a.tasks i 0 < 256) → length (carrier_lines (read s) a.tasks (pieces (count_of s) (suc (horizon_of s)) out)) ≤ 12 * 1569
+  lines_size : sheet_cause s ≡ None → ((i : ℕ) → get_or a.tasks i 0 < 256) → length (carrier_lines (read s) a.tasks (pieces (count_of s) (suc (horizon_of s)) out)) ≤ 12 * 1569
   unfolding carrier_lines
   lines_size ok t =
       let r : length (carrier_lines (read s) a.tasks (pieces (count_of s) (suc (horizon_of s)) out)) ≤ count_of s * 1569 = each_size (λ i. carrier_line (read s) i (get_or a.tasks i 0) (path_of (pieces (count_of s) (suc (horizon_of s)) out) i)) 1569 0 (count_of s) line in

@@ -1,5 +1,5 @@
 -- What is listed of an answer, for any sheet. Assumes nothing.
-use Rattle.std.specs.Prelude.{ℕ, ◌≡◌, cond, List, [], eqb}
+use Rattle.std.specs.Prelude.{ℕ, ◌≡◌, cond, List, [], eqb, None}
 use Rattle.deck.specs.Sheet.{read, sheet_cause}
 use Rattle.deck.specs.Listing.{listing_for}
 use Rattle.deck.specs.declared.SearchKind.{SearchKind}
@@ -8,7 +8,7 @@ use Rattle.deck.specs.declared.SearchAnswer.{SearchAnswer}
 
 -- only the lines of a plan speak of the sheet, and there the sheet has to be accepted
 abbrev pub Listable : List ℕ → SearchKind → Type 0
-Listable s Plan = sheet_cause s ≡ 0
+Listable s Plan = sheet_cause s ≡ None
 Listable s NoPlan = Unit {0}
 Listable s Spent = Unit {0}
 Listable s (Refused c) = Unit {0}

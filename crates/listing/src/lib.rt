@@ -2,7 +2,7 @@
 // Bytes alone: nothing is read or printed here. Where the buffer is too short the text is cut off at its end.
 #![tactic(auto)]
 
-ghost use Rattle.std.specs.Prelude.{◌≡◌, ◌∷◌, [], ◌++◌, suc, ◌+◌, ◌%◌, ◌<◌, ◌≤◌, min, length, take, drop};
+ghost use Rattle.std.specs.Prelude.{◌≡◌, ◌∷◌, [], ◌++◌, suc, ◌+◌, ◌%◌, ◌<◌, ◌≤◌, min, length, take, drop, None};
 ghost use Rattle.deck.specs.Lists.{pieces};
 ghost use Rattle.deck.specs.Sheet.{read, sheet_cause, count_of, horizon_of};
 ghost use Rattle.deck.specs.Listing.{decimal, text as bytes_of, spaced, carrier_line, carrier_lines, listing_for};
@@ -129,7 +129,7 @@ fn put_carriers(
     text: &mut [u8],
     at: usize,
 ) -> usize
-    requires { (sheet_cause s.now ≡ 0) × (m ≡ count_of s.now) × (h ≡ horizon_of s.now) × (at ≤ length text.old) }
+    requires { (sheet_cause s.now ≡ None) × (m ≡ count_of s.now) × (h ≡ horizon_of s.now) × (at ≤ length text.old) }
     ensures { Wrote text.old at (carrier_lines (read s.now) tasks (pieces m (suc h) paths.now)) text.new result }
 {
     let n = h + 1;

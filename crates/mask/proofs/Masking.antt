@@ -10,6 +10,7 @@ use lib.ListN.{length, get_or, drop, replicate, length-replicate, get_or-replica
 use lib.Seq.{get_or-take, get_or-drop}
 use lib.Dec.{T, eqb, ltb, ltb→lt}
 use borrow.Author.Tests.{lt-ltb}
+use Rattle.std.specs.Prelude.{None}
 use Rattle.deck.specs.Sheet.{Sheet, read, area, cause, grid_pair, grid_stretch}
 use Rattle.meaning.proofs.Accepted.{accepted, accepted_inside, directory_says}
 use Rattle.sheet.proofs.Accepted.{width_range, height_range}
@@ -37,7 +38,7 @@ module _ (s : List ℕ) (from : ℕ) where
       go (inl i) = let q : k ≡ n = omega arith in rw q (omega arith)
       go (inr l) = omega (arith, m k (omega arith))
 
-module _ (s : List ℕ) (ok : cause s ≡ 0) where
+module _ (s : List ℕ) (ok : cause s ≡ None) where
   abbrev d : Sheet
   d = read s
 

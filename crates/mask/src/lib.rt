@@ -1,7 +1,7 @@
 // The mask of an accepted sheet: which places are free, and by which ways they may be left, on the padded grid.
 #![tactic(auto)]
 
-ghost use Rattle.std.specs.Prelude.{◌≡◌, true, cond, ◌+◌, ◌-◌, ◌≤◌, max, length, get_or, replicate, eqb};
+ghost use Rattle.std.specs.Prelude.{◌≡◌, true, cond, ◌+◌, ◌-◌, ◌≤◌, max, length, get_or, replicate, eqb, None};
 ghost use Rattle.deck.specs.Sheet.{read, cause};
 ghost use Rattle.bars.specs.Padded.{shade_of, MaskOf};
 ghost use Rattle.layers.specs.Fill.{Filled};
@@ -61,7 +61,7 @@ fn greatest(s: &[u8], from: usize, n: usize) -> u8
 // Makes zeros the mask of an accepted sheet: on the padded grid, 0 off the grid. In place, since a copy would cost a short path a
 // measurable part of its time.
 pub fn fill(s: &[u8], mask: &mut [u8; 1156])
-    requires { (cause s.now ≡ 0) × (mask.old ≡ replicate 1156 0) }
+    requires { (cause s.now ≡ None) × (mask.old ≡ replicate 1156 0) }
     ensures { MaskOf (read s.now) mask.new }
 {
     let w = sheet::width(s);
@@ -75,7 +75,7 @@ pub fn fill(s: &[u8], mask: &mut [u8; 1156])
 
 // The mask of an accepted sheet.
 pub fn mask_of(s: &[u8]) -> [u8; 1156]
-    requires { cause s.now ≡ 0 }
+    requires { cause s.now ≡ None }
     ensures { MaskOf (read s.now) result }
 {
     let mut mask = [0u8; 1156];

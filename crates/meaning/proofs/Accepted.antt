@@ -10,10 +10,16 @@ use native.Mathlib.Nat.{eq-or-lt_of_le}
 use native.Mathlib.Omega.{arith}
 use lib.Dec.{T, leb, ltb, eqb, leb→le, ltb→lt, eqb→eq}
 use lib.ListN.{length, length-take, length-drop, length-map, get_or-map}
+use Rattle.deck.specs.declared.Stretch.{Stretch}
+use Rattle.deck.specs.Causes.{unless, ◌or_else◌}
+use Rattle.std.specs.Prelude.{None}
 use Rattle.deck.specs.Lists.{below, within, all, distinct, last}
-use Rattle.deck.specs.Sheet.{Stretch, area, grid_byte, carrier, task, start_of, last_goal, byte_at, width_of, height_of, count_of, horizon_of, limit_of, part, pair_at, pairs_for, starts_pair, directory_end, grid_stretch, starts_stretch, task_stretch, words, read, free, chained, goals_size, unless, ◌or_else◌, good_header, good_directory, good_grid, good_starts, good_goals, good_last_goals, cause, sheet_cause}
+use Rattle.deck.specs.Sheet.{area, grid_byte, carrier, task, start_of, last_goal, byte_at, width_of, height_of, count_of, horizon_of, limit_of, part, pair_at, pairs_for, starts_pair, directory_end, grid_stretch, starts_stretch, task_stretch, words, read, free, chained, goals_size, good_header, good_directory, good_grid, good_starts, good_goals, good_last_goals, cause, sheet_cause}
 use Rattle.deck.specs.Calls.{workspace_of, workspace_cause, plan_words, search_cause}
 use Rattle.meaning.proofs.Tests.{Says, says_eqb, says_leb, says_and}
+use Rattle.std.specs.Prelude.{Option, Some}
+use Rattle.std.proofs.lemmas.Option.{none-some}
+use Rattle.deck.specs.declared.cause.Cause.{Cause}
 use Rattle.meaning.proofs.Lists.{length_below}
 use Rattle.meaning.proofs.ListTests.{says_all_at, says_distinct}
 
@@ -22,18 +28,18 @@ both true b t = (tt, t)
 both false b t = absurd t
 
 -- a cause that does not hold leaves the next ones
-passes : (b : Bool) (n : ℕ) {c : ℕ} → (unless b (suc n) or_else c) ≡ 0 → T b × (c ≡ 0)
-passes true n e = (tt, e)
-passes false n e = absurd (omega arith)
+passes : (b : Bool) (c : Cause) {d : Option Cause} → (unless b c or_else d) ≡ None → T b × (d ≡ None)
+passes true c e = (tt, e)
+passes false c e = absurd (none-some _ (sym e))
 
-pub first_none : (c : ℕ) {e : ℕ} → (c or_else e) ≡ 0 → (c ≡ 0) × (e ≡ 0)
-first_none zero h = (refl, h)
-first_none (suc c) h = absurd (omega arith)
+pub first_none : (c : Option Cause) {e : Option Cause} → (c or_else e) ≡ None → (c ≡ None) × (e ≡ None)
+first_none None h = (refl, h)
+first_none (Some c) h = absurd (none-some _ (sym h))
 
 -- the last cause does not hold
-pub passes_last : (b : Bool) (n : ℕ) → unless b (suc n) ≡ 0 → T b
-passes_last true n e = tt
-passes_last false n e = absurd (omega arith)
+pub passes_last : (b : Bool) (c : Cause) → unless b c ≡ None → T b
+passes_last true c e = tt
+passes_last false c e = absurd (none-some _ (sym e))
 
 -- The tests that an accepted sheet passes
 pub record Accepted (s : List ℕ) : Type 0 where
@@ -44,22 +50,22 @@ pub record Accepted (s : List ℕ) : Type 0 where
   pub goals : T (good_goals (read s))
   pub last_goals : T (good_last_goals (read s))
 
-pub accepted : (s : List ℕ) → cause s ≡ 0 → Accepted s
+pub accepted : (s : List ℕ) → cause s ≡ None → Accepted s
 unfolding cause
 accepted s e =
-    let c1 = passes (leb 8 (length s)) 0 e in
-    let c2 = passes (good_header s) 1 c1.1 in
-    let c3 = passes (good_directory s) 2 c2.1 in
-    let c4 = passes (good_grid (read s)) 3 c3.1 in
-    let c5 = passes (good_starts (read s)) 4 c4.1 in
-    let c6 = passes (good_goals (read s)) 5 c5.1 in
+    let c1 = passes (leb 8 (length s)) _ e in
+    let c2 = passes (good_header s) _ c1.1 in
+    let c3 = passes (good_directory s) _ c2.1 in
+    let c4 = passes (good_grid (read s)) _ c3.1 in
+    let c5 = passes (good_starts (read s)) _ c4.1 in
+    let c6 = passes (good_goals (read s)) _ c5.1 in
     record {
       header = c2.0;
       directory = c3.0;
       grid = c4.0;
       starts = c5.0;
       goals = c6.0;
-      last_goals = passes_last (good_last_goals (read s)) 6 c6.1;
+      last_goals = passes_last (good_last_goals (read s)) _ c6.1;
     }
 
 -- The header
@@ -121,7 +127,7 @@ length_words m (a ∷ []) e = absurd (omega arith)
 length_words zero (a ∷ b ∷ l) e = absurd (omega arith)
 length_words (suc m) (a ∷ b ∷ l) e = ap suc (length_words m l (omega arith))
 
-module _ (s : List ℕ) (ok : cause s ≡ 0) where
+module _ (s : List ℕ) (ok : cause s ≡ None) where
   pub accepted_count : (1 ≤ (read s).count) × ((read s).count ≤ 12)
   accepted_count = ((header_says s).fact (accepted s ok).header).0.0.0.0.1
 
@@ -163,12 +169,12 @@ module _ (s : List ℕ) (ok : cause s ≡ 0) where
       (get_or-map (last 0) (read s).tasks i [] ∙ e ∙ sym (get_or-map (last 0) (read s).tasks j []))
 
 -- what the search asks for beyond an accepted sheet
-pub search_accepted : (s : List ℕ) (work out : ℕ) → search_cause s work out ≡ 0 → (sheet_cause s ≡ 0) × (workspace_of (read s) ≤ work) × (plan_words (read s) ≤ out)
+pub search_accepted : (s : List ℕ) (work out : ℕ) → search_cause s work out ≡ None → (sheet_cause s ≡ None) × (workspace_of (read s) ≤ work) × (plan_words (read s) ≤ out)
 unfolding search_cause
 search_accepted s work out e =
     let c1 = first_none (sheet_cause s) e in
     let c2 = first_none (workspace_cause (read s) work) c1.1 in (
       c1.0,
-      leb→le (workspace_of (read s)) work (passes_last (leb (workspace_of (read s)) work) 9 c2.0),
-      leb→le (plan_words (read s)) out (passes_last (leb (plan_words (read s)) out) 10 c2.1),
+      leb→le (workspace_of (read s)) work (passes_last (leb (workspace_of (read s)) work) _ c2.0),
+      leb→le (plan_words (read s)) out (passes_last (leb (plan_words (read s)) out) _ c2.1),
     )

@@ -7,6 +7,7 @@ use mathlib.Core.List.{List, [], ◌∷◌}
 use native.Mathlib.Omega.{arith}
 use lib.ListN.{length}
 use borrow.Author.Tests.{eq-eqb, ne_eqb}
+use Rattle.std.specs.Prelude.{None}
 use Rattle.deck.specs.Sheet.{Sheet, read, count_of, horizon_of, cause, sheet_cause}
 use Rattle.deck.specs.Search.{Answer, plan}
 use Rattle.deck.specs.Planner.{plan_for, or_dark, round_of}
@@ -15,12 +16,12 @@ use Rattle.meaning.specs.Meaning.{Plan, Right}
 use Rattle.meaning.proofs.Accepted.{accepted_count, accepted_horizon}
 
 -- THE SHEET, without bytes and with
-pub sheet_cases : (s : List ℕ) → sheet_cause s ≡ 0 → (s ≡ []) ⊎ (cause s ≡ 0)
+pub sheet_cases : (s : List ℕ) → sheet_cause s ≡ None → (s ≡ []) ⊎ (cause s ≡ None)
 unfolding sheet_cause
 sheet_cases [] e = inl refl
 sheet_cases (b ∷ s) e = inr e
 
-pub cause_without : (s : List ℕ) → length s ≡ 0 → sheet_cause s ≡ 0
+pub cause_without : (s : List ℕ) → length s ≡ 0 → sheet_cause s ≡ None
 unfolding sheet_cause
 cause_without [] e = refl
 cause_without (b ∷ s) e = absurd (omega arith)
@@ -31,26 +32,26 @@ cause_with [] n = absurd (n refl)
 cause_with (b ∷ s) n = refl
 
 -- what holds of an accepted sheet either way
-module _ (s : List ℕ) (ok : sheet_cause s ≡ 0) where
+module _ (s : List ℕ) (ok : sheet_cause s ≡ None) where
   pub most_carriers : count_of s ≤ 12
   most_carriers = go (sheet_cases s ok)
     where
-      go : (s ≡ []) ⊎ (cause s ≡ 0) → count_of s ≤ 12
+      go : (s ≡ []) ⊎ (cause s ≡ None) → count_of s ≤ 12
       go (inl e) = rw e (omega arith)
       go (inr e) = (accepted_count s e).1
 
   pub short_horizon : horizon_of s ≤ 255
   short_horizon = go (sheet_cases s ok)
     where
-      go : (s ≡ []) ⊎ (cause s ≡ 0) → horizon_of s ≤ 255
+      go : (s ≡ []) ⊎ (cause s ≡ None) → horizon_of s ≤ 255
       go (inl e) = rw e (omega arith)
       go (inr e) = accepted_horizon s e
 
   -- with a carrier it has bytes
-  pub with_carriers : 0 < count_of s → cause s ≡ 0
+  pub with_carriers : 0 < count_of s → cause s ≡ None
   with_carriers h = go (sheet_cases s ok)
     where
-      go : (s ≡ []) ⊎ (cause s ≡ 0) → cause s ≡ 0
+      go : (s ≡ []) ⊎ (cause s ≡ None) → cause s ≡ None
       go (inl e) = let z : 0 < count_of [] = rw e at h in absurd (omega arith)
       go (inr e) = e
 
@@ -78,11 +79,11 @@ unfolding or_dark
 search_without d x e = rw (eq-eqb d.count 0 e) refl
 
 -- what holds of the empty round, and of a search's answer where the sheet has none of the causes, holds of the round of an accepted sheet
-pub round_has : (P : Answer (List ℕ) → Type 0) (s : List ℕ) (x : Answer (List ℕ)) → sheet_cause s ≡ 0
-    → (count_of s ≡ 0 → P (plan [] [] 0 0 0)) → (cause s ≡ 0 → P x) → P (or_dark (read s) x)
+pub round_has : (P : Answer (List ℕ) → Type 0) (s : List ℕ) (x : Answer (List ℕ)) → sheet_cause s ≡ None
+    → (count_of s ≡ 0 → P (plan [] [] 0 0 0)) → (cause s ≡ None → P x) → P (or_dark (read s) x)
 round_has P s x ok dark search = go (sheet_cases s ok)
   where
-    go : (s ≡ []) ⊎ (cause s ≡ 0) → P (or_dark (read s) x)
+    go : (s ≡ []) ⊎ (cause s ≡ None) → P (or_dark (read s) x)
     go (inl e) = let z : count_of s ≡ 0 = rw e refl in rw (search_without (read s) x z) (dark z)
     go (inr e) = rw (search_with (read s) (accepted_count s e).0 x) (search e)
 

@@ -8,6 +8,7 @@ use native.Mathlib.Omega.{arith}
 use lib.Dec.{T, eqb, leb, ltb, le→leb, lt→ltb}
 use lib.ListN.{length, get_or, take, drop, replicate, length-append, length-drop, length-replicate, get_or-replicate, take-append-drop}
 use lib.Seq.{get_or-take, get_or-drop, ext_get_or, length-take-le}
+use Rattle.std.specs.Prelude.{None}
 use Rattle.deck.specs.Lists.{below, all, each}
 use Rattle.deck.specs.Sheet.{Sheet, area, carrier, task, cause, read}
 use Rattle.deck.specs.Paths.{finish_of}
@@ -30,7 +31,7 @@ use Rattle.nodes.proofs.Tables.{map_same}
 use Rattle.nodes.proofs.Costs.{path_at_lem}
 
 -- an accepted sheet fits the store
-pub accepted_fits : (s : List ℕ) → cause s ≡ 0 → Fits (read s)
+pub accepted_fits : (s : List ℕ) → cause s ≡ None → Fits (read s)
 accepted_fits s ok =
     let h = (header_says s).fact (accepted s ok).header in
     let w : (read s).width ≤ 32 = h.0.0.0.0.0.0.1 in

@@ -2,7 +2,7 @@
 use Prim.Native.Nat.{ℕ, ◌≤◌, ◌<◌}
 use mathlib.Core.Path.{◌≡◌, sym, subst, ◌∙◌}
 use mathlib.Core.List.{List}
-use Rattle.std.specs.Prelude.{Some}
+use Rattle.std.specs.Prelude.{Some, None}
 use native.Mathlib.Omega.{arith}
 use Rattle.deck.specs.Sheet.{Sheet, area, carrier, start_of, read, cause}
 use Rattle.deck.specs.Assignments.{barred}
@@ -59,5 +59,5 @@ module _ (d : Sheet) where
     deck_right = let (x, e, h) = best_answer in subst (λ o. Right d (answer_or o)) (sym e) (best_right x h)
 
 -- Demand 3 of the search from sheet to answer, with no hypothesis beside acceptance
-pub demand3 : (s : List ℕ) → cause s ≡ 0 → Right (read s) (plan_for (read s))
+pub demand3 : (s : List ℕ) → cause s ≡ None → Right (read s) (plan_for (read s))
 demand3 s ok = deck_right (read s) (accepted_limit s ok) (accepted_start s ok) (omega (arith, accepted_horizon s ok))

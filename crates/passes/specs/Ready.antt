@@ -1,6 +1,6 @@
 -- What the two passes are given for one carrier and one task of an accepted sheet, and what the backward pass leaves in the
 -- workspace. Assumes nothing.
-use Rattle.std.specs.Prelude.{ℕ, suc, ◌+◌, ◌-◌, ◌*◌, ◌≤◌, ◌<◌, ◌≡◌, List, reverse, length, T}
+use Rattle.std.specs.Prelude.{ℕ, suc, ◌+◌, ◌-◌, ◌*◌, ◌≤◌, ◌<◌, ◌≡◌, List, reverse, length, T, None}
 use Rattle.deck.specs.Sheet.{read, area, count_of, goals_of, last_goal, cause}
 use Rattle.deck.specs.Calls.{constraints_of, good_records}
 use Rattle.deck.specs.declared.Carrier.{Carrier}
@@ -14,7 +14,7 @@ use Rattle.layers.specs.Packed.{words_for, Laid}
 
 -- an accepted sheet with its mask, a carrier and a task of it, and good records
 pub record Ready (s : List ℕ) (i : Carrier) (j : Task) (mask rs : List ℕ) : Type 0 where
-  pub accepted : cause s ≡ 0
+  pub accepted : cause s ≡ None
   pub carrier_in : i.0 < count_of s
   pub task_in : j.0 < count_of s
   pub masked : MaskOf (read s) mask

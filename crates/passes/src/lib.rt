@@ -2,7 +2,7 @@
 // be finished in time from each place, with the layers kept in the workspace.
 #![tactic(auto)]
 
-ghost use Rattle.std.specs.Prelude.{◌≡◌, true, false, ◌&&◌, reverse, ℕ, ◌+◌, ◌-◌, ◌*◌, ◌<◌, ◌≤◌, length, get_or, leb, ltb};
+ghost use Rattle.std.specs.Prelude.{◌≡◌, true, false, ◌&&◌, reverse, ℕ, ◌+◌, ◌-◌, ◌*◌, ◌<◌, ◌≤◌, length, get_or, leb, ltb, None};
 ghost use Rattle.deck.specs.Sheet.{read, start_of, goals_of, cause};
 ghost use Rattle.deck.specs.Calls.{constraints_of};
 ghost use Rattle.kernel.specs.Labels.{all_goals};
@@ -22,7 +22,7 @@ fn wide8(x: u8) -> usize
 
 // The task's goals on the padded grid.
 pub fn goals_of(s: &[u8], j: Task) -> [usize; 8]
-    requires { cause s.now ≡ 0 }
+    requires { cause s.now ≡ None }
     ensures { Goals s.now j result }
 {
     let w = sheet::width(s);

@@ -4,13 +4,14 @@ use mathlib.Core.Path.{◌≡◌, refl, sym, ap}
 use mathlib.Core.Logic.{◌≢◌}
 use mathlib.Core.Bool.{◌&&◌}
 use mathlib.Core.List.{List}
+use Rattle.deck.specs.declared.cause.Cause.TheVariants.{BadNumber, BadRecords}
+use Rattle.deck.specs.Causes.{unless}
 use Rattle.std.specs.Prelude.{Option, None, Some}
 use native.Mathlib.Omega.{arith}
 use lib.ListN.{length, drop}
 use lib.Seq.{take_at}
 use lib.Dec.{T, leb, ltb, leb→le, ltb→lt}
-use Rattle.deck.specs.Causes.{bad_number, bad_records}
-use Rattle.deck.specs.Sheet.{read, count_of, horizon_of, cause, sheet_cause, unless}
+use Rattle.deck.specs.Sheet.{read, count_of, horizon_of, cause, sheet_cause}
 use Rattle.deck.specs.Paths.{least_path}
 use Rattle.deck.specs.Calls.{constraints_of, good_records, workspace_for, workspace_of, workspace_cause, path_found, path_written, path_cause, path_answer_for, path_output_for, PathCall}
 use Rattle.deck.specs.Numbers.{path_numbers}
@@ -28,10 +29,10 @@ use Rattle.passes.specs.Ready.{Ready, room_for}
 use Rattle.by_passes.proofs.Finding.{enough_room}
 use Rattle.path.specs.Meant.{Meant}
 
-module _ (s : List ℕ) (i : Carrier) (j : Task) (work out : ℕ) (rs : List ℕ) (ok : path_cause s i j work out rs ≡ 0) where
+module _ (s : List ℕ) (i : Carrier) (j : Task) (work out : ℕ) (rs : List ℕ) (ok : path_cause s i j work out rs ≡ None) where
   -- what no cause says
   pub record NoCause : Type 0 where
-    pub accepted : cause s ≡ 0
+    pub accepted : cause s ≡ None
     pub carrier_in : i.0 < count_of s
     pub task_in : j.0 < count_of s
     pub records : T (good_records (read s) rs)
@@ -42,8 +43,8 @@ module _ (s : List ℕ) (i : Carrier) (j : Task) (work out : ℕ) (rs : List ℕ
   unfolding path_cause
   no_cause =
       let c1 = first_none (sheet_cause s) ok in
-      let c2 = first_none (unless (ltb i.0 (count_of s) && ltb j.0 (count_of s)) bad_number) c1.1 in
-      let c3 = first_none (unless (good_records (read s) rs) bad_records) c2.1 in
+      let c2 = first_none (unless (ltb i.0 (count_of s) && ltb j.0 (count_of s)) BadNumber) c1.1 in
+      let c3 = first_none (unless (good_records (read s) rs) BadRecords) c2.1 in
       let c4 = first_none (workspace_cause (read s) work) c3.1 in
       let b = passes_last (ltb i.0 (count_of s) && ltb j.0 (count_of s)) 7 c2.0 in
       let l = ltb→lt i.0 (count_of s) (and_left (ltb i.0 (count_of s)) (ltb j.0 (count_of s)) b) in

@@ -7,9 +7,11 @@ use mathlib.Core.List.{List}
 use lib.ListN.{length}
 use lib.Dec.{T, leb, ltb}
 use borrow.Author.Tests.{eq-eqb, ne_eqb, le-leb, lt-leb, lt-ltb, le-ltb}
+use Rattle.deck.specs.declared.cause.Cause.TheVariants.{BadNumber, BadRecords, ShortWorkspace, WrongLength}
+use Rattle.deck.specs.Causes.{unless, ◌or_else◌}
+use Rattle.std.specs.Prelude.{None}
 use Rattle.deck.specs.Lists.{below, all}
-use Rattle.deck.specs.Causes.{bad_number, bad_records, short_workspace, wrong_length}
-use Rattle.deck.specs.Sheet.{Sheet, read, area, count_of, horizon_of, sheet_cause, unless, ◌or_else◌}
+use Rattle.deck.specs.Sheet.{Sheet, read, area, count_of, horizon_of, sheet_cause}
 use Rattle.deck.specs.Calls.{record_word, good_tail, good_record, good_records, workspace_of, workspace_cause, output_cause, path_cause}
 use Rattle.deck.specs.declared.Carrier.{Carrier}
 use Rattle.deck.specs.declared.Task.{Task}
@@ -88,36 +90,36 @@ module _ (d : Sheet) (rs : List ℕ) where
 
 -- The causes in order
 module _ (s : List ℕ) (i : Carrier) (j : Task) (work out : ℕ) (rs : List ℕ) where
-  pub cause_first : (c : ℕ) → c ≡ sheet_cause s → c ≢ 0 → c ≡ path_cause s i j work out rs
+  pub cause_first : (c : ℕ) → c ≡ sheet_cause s → c ≢ None → c ≡ path_cause s i j work out rs
   unfolding path_cause
   cause_first c e n = go c e n
     where
-      go : (c : ℕ) → c ≡ sheet_cause s → c ≢ 0 → c ≡ (sheet_cause s or_else (unless (ltb i.0 (count_of s) && ltb j.0 (count_of s)) bad_number or_else (unless (good_records (read s) rs) bad_records or_else (workspace_cause (read s) work or_else output_cause (suc (horizon_of s)) out))))
+      go : (c : ℕ) → c ≡ sheet_cause s → c ≢ None → c ≡ (sheet_cause s or_else (unless (ltb i.0 (count_of s) && ltb j.0 (count_of s)) BadNumber or_else (unless (good_records (read s) rs) BadRecords or_else (workspace_cause (read s) work or_else output_cause (suc (horizon_of s)) out))))
       go zero e n = absurd (n refl)
       go (suc c) e n = rw (← e) refl
 
-  module _ (ok : sheet_cause s ≡ 0) where
-    pub cause_carrier : count_of s ≤ i.0 → bad_number ≡ path_cause s i j work out rs
+  module _ (ok : sheet_cause s ≡ None) where
+    pub cause_carrier : count_of s ≤ i.0 → BadNumber ≡ path_cause s i j work out rs
     unfolding path_cause
     cause_carrier h = rw (ok, le-ltb i.0 (count_of s) h) refl
 
     module _ (a : i.0 < count_of s) where
-      pub cause_task : count_of s ≤ j.0 → bad_number ≡ path_cause s i j work out rs
+      pub cause_task : count_of s ≤ j.0 → BadNumber ≡ path_cause s i j work out rs
       unfolding path_cause
       cause_task h = rw (ok, lt-ltb i.0 (count_of s) a, le-ltb j.0 (count_of s) h) refl
 
       module _ (b : j.0 < count_of s) where
-        pub cause_records : good_records (read s) rs ≡ false → bad_records ≡ path_cause s i j work out rs
+        pub cause_records : good_records (read s) rs ≡ false → BadRecords ≡ path_cause s i j work out rs
         unfolding path_cause
         cause_records h = rw (ok, lt-ltb i.0 (count_of s) a, lt-ltb j.0 (count_of s) b, h) refl
 
         module _ (c : good_records (read s) rs ≡ true) where
-          pub cause_work : work < workspace_of (read s) → short_workspace ≡ path_cause s i j work out rs
+          pub cause_work : work < workspace_of (read s) → ShortWorkspace ≡ path_cause s i j work out rs
           unfolding path_cause
           cause_work h = rw (ok, lt-ltb i.0 (count_of s) a, lt-ltb j.0 (count_of s) b, c, lt-leb (workspace_of (read s)) work h) refl
 
           module _ (e : workspace_of (read s) ≤ work) where
-            pub cause_out : out < suc (horizon_of s) → wrong_length ≡ path_cause s i j work out rs
+            pub cause_out : out < suc (horizon_of s) → WrongLength ≡ path_cause s i j work out rs
             unfolding path_cause
             cause_out h = rw (ok, lt-ltb i.0 (count_of s) a, lt-ltb j.0 (count_of s) b, c, le-leb (workspace_of (read s)) work e, lt-leb (suc (horizon_of s)) out h) refl
 

@@ -1,7 +1,7 @@
 // The causes for which the single-path call declines, in document 01's order.
 #![tactic(auto)]
 
-ghost use Rattle.std.specs.Prelude.{◌≡◌, ◌+◌, ◌*◌, ◌/◌, ◌%◌, ◌<◌, length};
+ghost use Rattle.std.specs.Prelude.{◌≡◌, ◌+◌, ◌*◌, ◌/◌, ◌%◌, ◌<◌, length, None};
 ghost use Rattle.deck.specs.Sheet.{read, cause};
 ghost use Rattle.deck.specs.Calls.{record_word, good_tail, good_record, good_records, path_cause};
 
@@ -24,7 +24,7 @@ fn word(records: &[u16], k: usize, n: usize) -> usize
 // The last two words of a record of the kind: of a place constraint v is 0 and t at most H, of a move constraint v is on the
 // grid and t below H.
 fn good_tail(s: &[u8], kind: usize, v: usize, t: usize) -> bool
-    requires { cause s.now ≡ 0 }
+    requires { cause s.now ≡ None }
     ensures { result ≡ good_tail (read s.now) kind v t }
 {
     let horizon = sheet::horizon(s);
@@ -42,7 +42,7 @@ fn good_tail(s: &[u8], kind: usize, v: usize, t: usize) -> bool
 
 // The record k keeps the rules of cause 9.
 fn good_record(s: &[u8], records: &[u16], k: usize) -> bool
-    requires { (cause s.now ≡ 0) × (k < 4096) × (k < length records.now / 5) }
+    requires { (cause s.now ≡ None) × (k < 4096) × (k < length records.now / 5) }
     ensures { result ≡ good_record (read s.now) records.now k }
 {
     let kind = word(records, k, 0);
@@ -60,7 +60,7 @@ fn good_record(s: &[u8], records: &[u16], k: usize) -> bool
 
 // The list of records keeps the rules of cause 9.
 fn good_records(s: &[u8], records: &[u16]) -> bool
-    requires { cause s.now ≡ 0 }
+    requires { cause s.now ≡ None }
     ensures { result ≡ good_records (read s.now) records.now }
 {
     let n = records.len() / 5;

@@ -1,7 +1,7 @@
 // One carrier's path on an accepted sheet: its start, its steps, its goals and its finish.
 #![tactic(auto)]
 
-ghost use Rattle.std.specs.Prelude.{◌≡◌, ℕ, suc, ◌<◌, ◌≤◌, eqb, length, get_or, drop};
+ghost use Rattle.std.specs.Prelude.{◌≡◌, ℕ, suc, ◌<◌, ◌≤◌, eqb, length, get_or, drop, None};
 ghost use Rattle.deck.specs.Lists.{is_nil};
 ghost use Rattle.deck.specs.Sheet.{Sheet, read, cause, width_of, horizon_of, words, free};
 ghost use Rattle.deck.specs.Paths.{one_apart, next_to, may_leave, beside, may_step, visit, left, finish as finish_on, finish_of};
@@ -176,7 +176,7 @@ pub fn finish_of(s: &[u8], j: Task, path: &[u16]) -> usize
 
 // The finish of the path if it is one of the carrier for the task on a sheet of width w and horizon h.
 pub fn path_finish(s: &[u8], w: usize, h: usize, i: Carrier, j: Task, path: &[u16]) -> PathAnswer
-    requires { (cause s.now ≡ 0) × (w ≡ width_of s.now) × (h ≡ horizon_of s.now) × (length path.now ≡ suc h) }
+    requires { (cause s.now ≡ None) × (w ≡ width_of s.now) × (h ≡ horizon_of s.now) × (length path.now ≡ suc h) }
     ensures { result ≡ path_answer (read s.now) i j path.now }
 {
     if wide(path[0]) != sheet::start(s, i) {

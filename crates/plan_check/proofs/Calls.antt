@@ -3,14 +3,15 @@ use Prim.Native.Nat.{ℕ, zero, suc}
 use mathlib.Core.Path.{◌≡◌, refl, sym, ap, subst, ◌∙◌}
 use mathlib.Core.Bool.{Bool, true, false, ◌&&◌, cond}
 use mathlib.Core.List.{List}
+use Rattle.deck.specs.declared.cause.Cause.TheVariants.{WrongLength}
+use Rattle.deck.specs.Causes.{unless, ◌or_else◌}
 use Rattle.std.specs.Prelude.{Option, None, Some}
 use native.Mathlib.Omega.{arith}
 use lib.ListN.{length, take, drop}
 use lib.Dec.{eqb}
 use borrow.Author.Tests.{eq-eqb, ne_eqb, eqb-true}
-use Rattle.deck.specs.Causes.{wrong_length}
 use Rattle.deck.specs.Lists.{all, is_nil, pieces}
-use Rattle.deck.specs.Sheet.{read, sheet_cause, width_of, count_of, horizon_of, unless, ◌or_else◌}
+use Rattle.deck.specs.Sheet.{read, sheet_cause, width_of, count_of, horizon_of}
 use Rattle.deck.specs.Collisions.{collisions}
 use Rattle.deck.specs.Search.{flowtime}
 use Rattle.deck.specs.Planner.{problem}
@@ -24,7 +25,7 @@ use Rattle.plan_check.specs.Answers.{flow_answer}
 use Rattle.plan_check.specs.Meant.{PlanFor, Meant}
 
 -- the reading
-module _ (s : List ℕ) (ok : sheet_cause s ≡ 0) where
+module _ (s : List ℕ) (ok : sheet_cause s ≡ None) where
   pub read_width : (read_call s).width ≡ width_of s
   unfolding read_call reading_for
   read_width = rw ok
@@ -93,14 +94,14 @@ module _ (s tasks ws : List ℕ) where
       found_yes (Some g) e = cc
 
       yes_plan : (c : ℕ) → sheet_cause s ≡ c → (b : Bool) → eqb (length ws) (plan_words (read s)) ≡ b
-          → check_for (c or_else unless b wrong_length) (read s) tasks ws ≡ Yes f → PlanFor s tasks ws f
+          → check_for (c or_else unless b WrongLength) (read s) tasks ws ≡ Yes f → PlanFor s tasks ws f
       yes_plan (suc c) q b k e = let z : ◌≡◌ {A = ℕ} 0 1 = cc in absurd (omega arith)
       yes_plan zero q false k e = let z : ◌≡◌ {A = ℕ} 0 1 = cc in absurd (omega arith)
       yes_plan zero q true k e =
           let p = (plan_check_meant (read s) tasks ps f).0 (found_yes (plan_check (read s) tasks ps) e) in
           record { accepted = q; exact = eqb-true (length ws) (plan_words (read s)) k; rest = p.0; finishes = p.1.0; plan = p.1.1; flowtime = p.1.2 }
 
-      plan_yes : PlanFor s tasks ws f → check_for (sheet_cause s or_else unless (eqb (length ws) (plan_words (read s))) wrong_length) (read s) tasks ws ≡ Yes f
+      plan_yes : PlanFor s tasks ws f → check_for (sheet_cause s or_else unless (eqb (length ws) (plan_words (read s))) WrongLength) (read s) tasks ws ≡ Yes f
       plan_yes p =
           rw (p.accepted, eq-eqb (length ws) (plan_words (read s)) p.exact)
           (ap check_found ((plan_check_meant (read s) tasks ps f).1 (p.rest, (p.finishes, p.plan, p.flowtime))))
@@ -112,18 +113,18 @@ module _ (s tasks ws : List ℕ) where
   ensured : (r : CheckAnswer) → r ≡ check_call s tasks ws → Ensured r
   ensured r e = (ap check_numbers e, subst (Meant s tasks ws) (sym e) meant)
 
-  pub sheet_refused : (c : ℕ) → c ≡ sheet_cause s → (c ≡ 0 → ⊥) → Ensured (Refused c)
+  pub sheet_refused : (c : ℕ) → c ≡ sheet_cause s → (c ≡ None → ⊥) → Ensured (Refused c)
   unfolding check_call check_cause check_for
   sheet_refused c e n = ensured (Refused c) (rw (← e) (go c n))
     where
-      go : (c : ℕ) → (c ≡ 0 → ⊥) → Refused c ≡ check_for (c or_else unless (eqb (length ws) (plan_words (read s))) wrong_length) (read s) tasks ws
+      go : (c : ℕ) → (c ≡ 0 → ⊥) → Refused c ≡ check_for (c or_else unless (eqb (length ws) (plan_words (read s))) WrongLength) (read s) tasks ws
       go zero n = absurd (n refl)
       go (suc c) n = refl
 
-  module _ (ok : sheet_cause s ≡ 0) where
-    pub length_refused : (length ws ≡ plan_words (read s) → ⊥) → Ensured (Refused wrong_length)
+  module _ (ok : sheet_cause s ≡ None) where
+    pub length_refused : (length ws ≡ plan_words (read s) → ⊥) → Ensured (Refused WrongLength)
     unfolding check_call check_cause check_for
-    length_refused n = ensured (Refused wrong_length) (rw (ok, ne_eqb (length ws) (plan_words (read s)) n))
+    length_refused n = ensured (Refused WrongLength) (rw (ok, ne_eqb (length ws) (plan_words (read s)) n))
 
     module _ (exact : length ws ≡ plan_words (read s)) where
       by_plan : verdict ends assigned served apart flow ≡ check_call s tasks ws

@@ -3,7 +3,7 @@
 
 mod tasks;
 
-ghost use Rattle.std.specs.Prelude.{◌≡◌, suc, ◌*◌, ◌<◌, ◌≤◌, length, take};
+ghost use Rattle.std.specs.Prelude.{◌≡◌, suc, ◌*◌, ◌<◌, ◌≤◌, length, take, None};
 ghost use Rattle.deck.specs.Lists.{is_nil, pieces};
 ghost use Rattle.deck.specs.Sheet.{read, sheet_cause, width_of, count_of, horizon_of};
 ghost use Rattle.deck.specs.Collisions.{collisions};
@@ -28,7 +28,7 @@ fn apart(m: usize, h: usize, paths: &[u16]) -> bool
 
 // Yes with the flowtime if each carrier's words are a path for its task.
 fn flowtime(s: &[u8], w: usize, m: usize, h: usize, tasks: [u8; 12], paths: &[u16]) -> CheckAnswer
-    requires { (sheet_cause s.now ≡ 0) × (w ≡ width_of s.now) × (m ≡ count_of s.now) × (h ≡ horizon_of s.now) × (length paths.now ≡ m * suc h) }
+    requires { (sheet_cause s.now ≡ None) × (w ≡ width_of s.now) × (m ≡ count_of s.now) × (h ≡ horizon_of s.now) × (length paths.now ≡ m * suc h) }
     ensures { result ≡ flow_answer (read s.now) (take m tasks) (pieces m (suc h) paths.now) }
 {
     let n = h + 1;

@@ -6,7 +6,10 @@ use mathlib.Core.List.{List, [], ◌∷◌}
 use lib.ListN.{length}
 use lib.IntN.{ℤ}
 use borrow.Author.Tests.{lt-ltb, le-ltb}
-use Rattle.deck.specs.Sheet.{Stretch, read, sheet_cause, task, count_of, pair_at, task_pair, ◌or_else◌}
+use Rattle.deck.specs.declared.Stretch.{Stretch}
+use Rattle.deck.specs.Causes.{◌or_else◌}
+use Rattle.std.specs.Prelude.{None}
+use Rattle.deck.specs.Sheet.{read, sheet_cause, task, count_of, pair_at, task_pair}
 use Rattle.deck.specs.Calls.{workspace_of, goals_cause, goals_call, stretch_for, PathCall, AssignmentCall, search_answer, SearchCall}
 use Rattle.deck.specs.Numbers.{path_numbers, assignment_numbers, search_numbers}
 use Rattle.deck.proofs.Told.{path_answered, assignment_answered, search_answered}
@@ -31,11 +34,11 @@ use Rattle.board.proofs.Called.{call_written}
 use Rattle.planner.proofs.Sizes.{path_small, assignment_small, search_small, board_small}
 
 -- THE SHEET
-pub wanted : {n : ℕ} (s : List ℕ) → sheet_cause s ≡ 0 → n ≡ workspace_of (read s) → n ≡ workspace_wanted (sheet_cause s) (read s)
+pub wanted : {n : ℕ} (s : List ℕ) → sheet_cause s ≡ None → n ≡ workspace_of (read s) → n ≡ workspace_wanted (sheet_cause s) (read s)
 unfolding workspace_wanted
 wanted s e f = rw e f
 
-pub not_wanted : (s : List ℕ) → sheet_cause s ≢ 0 → 0 ≡ workspace_wanted (sheet_cause s) (read s)
+pub not_wanted : (s : List ℕ) → sheet_cause s ≢ None → 0 ≡ workspace_wanted (sheet_cause s) (read s)
 unfolding workspace_wanted
 not_wanted s n = go (sheet_cause s) n
   where
@@ -44,7 +47,7 @@ not_wanted s n = go (sheet_cause s) n
     go (suc c) m = refl
 
 -- where the goals of a task stand
-pub goals_refused : (s : List ℕ) (j : ℕ) → sheet_cause s ≢ 0 → (0 ∷ 0 ∷ []) ≡ stretch_numbers (goals_call s (task j))
+pub goals_refused : (s : List ℕ) (j : ℕ) → sheet_cause s ≢ None → (0 ∷ 0 ∷ []) ≡ stretch_numbers (goals_call s (task j))
 unfolding goals_call goals_cause
 goals_refused s j n = go (sheet_cause s) _ _ n
   where
@@ -52,11 +55,11 @@ goals_refused s j n = go (sheet_cause s) _ _ n
     go zero d r m = absurd (m refl)
     go (suc c) d r m = refl
 
-pub goals_of_none : (s : List ℕ) (j : ℕ) → sheet_cause s ≡ 0 → count_of s ≤ j → (0 ∷ 0 ∷ []) ≡ stretch_numbers (goals_call s (task j))
+pub goals_of_none : (s : List ℕ) (j : ℕ) → sheet_cause s ≡ None → count_of s ≤ j → (0 ∷ 0 ∷ []) ≡ stretch_numbers (goals_call s (task j))
 unfolding goals_call goals_cause
 goals_of_none s j e h = rw (e, le-ltb j (count_of s) h)
 
-pub goals_at : {a b : ℕ} (s : List ℕ) (j : ℕ) → sheet_cause s ≡ 0 → j < count_of s → a ≡ (pair_at s (task_pair j)).offset → b ≡ (pair_at s (task_pair j)).size
+pub goals_at : {a b : ℕ} (s : List ℕ) (j : ℕ) → sheet_cause s ≡ None → j < count_of s → a ≡ (pair_at s (task_pair j)).offset → b ≡ (pair_at s (task_pair j)).size
     → (a ∷ b ∷ []) ≡ stretch_numbers (goals_call s (task j))
 unfolding goals_call goals_cause
 goals_at s j e h p q = rw (e, lt-ltb j (count_of s) h, p, q)

@@ -94,7 +94,7 @@ entry_small (x ∷ l) h zero = omega (arith, h 0)
 entry_small (x ∷ l) h (suc k) = entry_small l (λ i. h (suc i)) k
 
 module _ (m : ℕ) (table : List ℕ) (words : (k : ℕ) → table at k < 65536) where
-  few : assignment_cause m table ≡ 0 → m ≤ 12
+  few : assignment_cause m table ≡ None → m ≤ 12
   few e = ⊎_elim (λ h. absurd (omega (arith, count_high m table h))) (λ h. h) (lower 12 m)
 
   sum_of_small : (a : List ℕ) → length a ≤ 12 → sum_of m table a < word
@@ -185,7 +185,7 @@ abbrev SmallTurn : Turn (List ℕ) Constraint → Type 0
 SmallTurn (done a) = SmallAnswer a
 SmallTurn (more st) = Unit {0}
 
-module _ (s : List ℕ) (ok : cause s ≡ 0) where
+module _ (s : List ℕ) (ok : cause s ≡ None) where
   abbrev d : Sheet
   d = read s
 
@@ -264,7 +264,7 @@ module _ (s : List ℕ) (ok : cause s ≡ 0) where
       go None h = omega arith
       go (Some a) h = h
 
-round_small : (s : List ℕ) → sheet_cause s ≡ 0 → SmallAnswer (round_of (read s))
+round_small : (s : List ℕ) → sheet_cause s ≡ None → SmallAnswer (round_of (read s))
 unfolding round_of
 round_small s ok = round_has SmallAnswer s (plan_for (read s)) ok (λ None. (omega arith, omega arith, omega arith)) (plan_small s)
 

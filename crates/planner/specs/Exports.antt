@@ -1,7 +1,8 @@
 -- What the exported calls leave in the words that are lent to them, by the definitions of the calls and of their numbers.
 -- Assumes nothing.
-use Rattle.std.specs.Prelude.{ℕ, zero, suc, ◌≡◌, ◌≢◌, List, [], ◌∷◌, length, ℤ}
-use Rattle.deck.specs.Sheet.{Sheet, Stretch, read}
+use Rattle.deck.specs.declared.Stretch.{Stretch}
+use Rattle.std.specs.Prelude.{ℕ, zero, suc, ◌≡◌, ◌≢◌, List, [], ◌∷◌, length, ℤ, None}
+use Rattle.deck.specs.Sheet.{Sheet, read}
 use Rattle.deck.specs.Calls.{workspace_of, path_cause, path_answer_for, PathCall, assignment_cause, least_for, assignment_kind, AssignmentCall, overwrite, search_answer, SearchCall}
 use Rattle.path.specs.Meant.{Meant as PathMeant}
 use Rattle.assignment.specs.Meant.{Meant as AssignmentMeant}
@@ -34,7 +35,7 @@ pub record AssignmentExport (m : ℕ) (table tasks : List ℕ) (rows columns : L
 pub record InOrderExport (m : ℕ) (table work lists work' lists' numbers : List ℕ) : Type 0 where
   pub numbered : numbers ≡ assignment_cause m table ∷ length (listed_for (assignment_cause m table) (room_for (length work) (length lists)) m table) ∷ []
   pub listed : lists' ≡ overwrite (lists_of (listed_for (assignment_cause m table) (room_for (length work) (length lists)) m table)) lists
-  pub unwritten : assignment_cause m table ≢ 0 → work' ≡ work
+  pub unwritten : assignment_cause m table ≢ None → work' ≡ work
 
 -- the search
 pub record SearchExport (s work out numbers work' out' : List ℕ) : Type 0 where

@@ -3,6 +3,7 @@ use Prim.Native.Nat.{ℕ, ◌+◌, ◌<◌, ◌≤◌}
 use mathlib.Core.Path.{◌≡◌, refl, sym, ap, ◌∙◌}
 use mathlib.Core.Bool.{true, false, not, false≢true}
 use mathlib.Core.List.{List, [], ◌∷◌}
+use Rattle.deck.specs.Numbers.{no_tasks}
 use Rattle.std.specs.Prelude.{Option, None, Some}
 use native.Mathlib.Decide.{ℕ_discrete, dec_le}
 use native.Mathlib.Omega.{arith}
@@ -13,7 +14,7 @@ use Rattle.deck.specs.Sheet.{Sheet, read, cause}
 use Rattle.deck.specs.Assignments.{assignments_in_order, least_assignment, table_of}
 use Rattle.deck.specs.Search.{Answer, no_plan, spent, search_from, searched, cheapest}
 use Rattle.deck.specs.Planner.{problem, plan_for}
-use Rattle.deck.specs.Calls.{task_list, no_tasks, overwrite, search_found, search_written}
+use Rattle.deck.specs.Calls.{task_list, overwrite, search_found, search_written}
 use Rattle.deck.specs.declared.SearchKind.TheVariants.{Plan as PlanKind, NoPlan as NoPlanKind, Spent as SpentKind}
 use Rattle.meaning.specs.Meaning.{◌at◌, Assignment}
 use Rattle.meaning.proofs.Fuel.{plan_answers}
@@ -40,7 +41,7 @@ starts_more d starts i x l old new k h = go (ℕ_discrete k i)
     go (no e) = rw (get_or-set_other starts i k x 0 e) (old k (omega arith))
 
 -- THE FIRST ROOT
-module _ (s : List ℕ) (ok : cause s ≡ 0) where
+module _ (s : List ℕ) (ok : cause s ≡ None) where
   small_tasks : (a : List ℕ) → Assignment (read s).count a → (k : ℕ) → a at k < 256
   small_tasks a h k = go (dec_le (length a) k)
     where
@@ -86,7 +87,7 @@ none_assigned : (d : Sheet) → least_assignment d.count (table_of d) ≡ None �
 unfolding problem least_assignment
 none_assigned d e = head_none (assignments_in_order d.count (table_of d)) e
 
-module _ (s : List ℕ) (ok : cause s ≡ 0) where
+module _ (s : List ℕ) (ok : cause s ≡ None) where
   none_plan : (problem (read s)).assignments ≡ [] → plan_for (read s) ≡ no_plan 0
   unfolding searched
   none_plan e =

@@ -1,11 +1,12 @@
 // The search of an accepted sheet that has bytes, with room enough: the first root, the turns, and the answer for their end.
 #![tactic(auto)]
 
-ghost use Rattle.std.specs.Prelude.{◌≡◌, List, ℕ, ◌+◌, ◌*◌, ◌<◌, ◌≤◌, length};
+ghost use Rattle.deck.specs.Numbers.{no_tasks};
+ghost use Rattle.std.specs.Prelude.{◌≡◌, List, ℕ, ◌+◌, ◌*◌, ◌<◌, ◌≤◌, length, None};
 ghost use Rattle.std.specs.Prelude.{Some};
 ghost use Rattle.deck.specs.Sheet.{read, count_of, cause};
 ghost use Rattle.deck.specs.Assignments.{least_assignment, table_of};
-ghost use Rattle.deck.specs.Calls.{search_found, search_written, task_list, no_tasks, workspace_for, plan_words};
+ghost use Rattle.deck.specs.Calls.{search_found, search_written, task_list, workspace_for, plan_words};
 ghost use Rattle.deck.specs.Search.{Answer};
 ghost use Rattle.deck.specs.Planner.{plan_for};
 ghost use Rattle.deck.specs.declared.SearchAnswer.{SearchAnswer};
@@ -25,7 +26,7 @@ fn narrow(x: usize) -> u16
 }
 
 fn starts_of(s: &[u8]) -> [u16; 12]
-    requires { cause s.now ≡ 0 }
+    requires { cause s.now ≡ None }
     ensures { StartsOf (read s.now) result }
 {
     let m = sheet::count(s);
@@ -38,7 +39,7 @@ fn starts_of(s: &[u8]) -> [u16; 12]
 
 // The lower bounds of all tasks, 9216 bytes to each.
 fn bounds_of(s: &[u8], mask: &[u8; 1156], table: &mut [u8])
-    requires { (cause s.now ≡ 0) × MaskOf (read s.now) mask.now × (length table.old ≡ 110592) }
+    requires { (cause s.now ≡ None) × MaskOf (read s.now) mask.now × (length table.old ≡ 110592) }
     ensures { Bounded (read s.now) table.new }
 {
     let m = sheet::count(s);
@@ -62,7 +63,7 @@ pub fn without(kind: SearchKind, nodes: usize, bound: usize) -> SearchAnswer
 
 // The answer for the end of the search. Only a plan is written.
 fn answered(s: &[u8], starts: &[u16; 12], work: &[u32], end: End, out: &mut [u16]) -> SearchAnswer
-    requires { (cause s.now ≡ 0) × StartsOf (read s.now) starts.now × (workspace_for (read s.now) ≤ length work.now) × (plan_words (read s.now) ≤ length out.old) × ((a : Answer (List ℕ)) × EndedWith (read s.now) work.now end a) }
+    requires { (cause s.now ≡ None) × StartsOf (read s.now) starts.now × (workspace_for (read s.now) ≤ length work.now) × (plan_words (read s.now) ≤ length out.old) × ((a : Answer (List ℕ)) × EndedWith (read s.now) work.now end a) }
     ensures { (a : Answer (List ℕ)) → EndedWith (read s.now) work.now end a → (result ≡ search_found a) × (out.new ≡ search_written a out.old) }
 {
     match end {
@@ -108,7 +109,7 @@ fn planned(
 
 // The search of an accepted sheet that has bytes, with room enough.
 pub fn accepted(s: &[u8], work: &mut [u32], out: &mut [u16]) -> SearchAnswer
-    requires { (cause s.now ≡ 0) × (workspace_for (read s.now) ≤ length work.old) × (plan_words (read s.now) ≤ length out.old) }
+    requires { (cause s.now ≡ None) × (workspace_for (read s.now) ≤ length work.old) × (plan_words (read s.now) ≤ length out.old) }
     ensures { (result ≡ search_found (plan_for (read s.now))) × (out.new ≡ search_written (plan_for (read s.now)) out.old) }
 {
     let mask = mask::mask_of(s);

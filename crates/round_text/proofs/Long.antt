@@ -8,8 +8,9 @@ use native.Mathlib.Omega.{arith}
 use lib.Dec.{T}
 use lib.ListN.{length, length-append, get_or-append}
 use borrow.Author.Tests.{le-leb}
+use Rattle.deck.specs.Causes.{unless, ◌or_else◌}
 use Rattle.deck.specs.Lists.{below, all}
-use Rattle.deck.specs.Sheet.{byte_at, count_of, pair_at, grid_pair, starts_pair, task_pair, pairs_for, grid_stretch, starts_stretch, task_stretch, task, directory_end, chained, goals_size, good_header, good_directory, unless, ◌or_else◌, cause, sheet_cause}
+use Rattle.deck.specs.Sheet.{byte_at, count_of, pair_at, grid_pair, starts_pair, task_pair, pairs_for, grid_stretch, starts_stretch, task_stretch, task, directory_end, chained, goals_size, good_header, good_directory, cause, sheet_cause}
 use Rattle.deck.specs.Calls.{search_cause, search_answer_for, search_output_for, search_answer, search_output}
 use Rattle.deck.specs.Listing.{listing_for, listing}
 use Rattle.meaning.proofs.Tests.{Says, says_eqb, says_leb, says_and}

@@ -3,6 +3,7 @@ use Prim.Native.Nat.{ℕ, zero, suc}
 use mathlib.Core.Path.{◌≡◌, refl, ap, ap₂, ◌∙◌}
 use mathlib.Core.List.{List}
 use lib.ListN.{length, drop, replicate}
+use Rattle.std.specs.Prelude.{None}
 use Rattle.deck.specs.Lists.{flat}
 use Rattle.deck.specs.Sheet.{Sheet, read, sheet_cause}
 use Rattle.deck.specs.Search.{Answer, plan, no_plan, spent}
@@ -20,7 +21,7 @@ use Rattle.optimal.proofs.Written.{plan_pieces, round_right}
 use Rattle.meaning.proofs.Accepted.{search_accepted}
 use Rattle.listing.specs.Listed.{Listable}
 
-accepted_listable : (s : List ℕ) → sheet_cause s ≡ 0 → (k : SearchKind) → Listable s k
+accepted_listable : (s : List ℕ) → sheet_cause s ≡ None → (k : SearchKind) → Listable s k
 accepted_listable s ok Plan = ok
 accepted_listable s ok NoPlan = tt
 accepted_listable s ok Spent = tt
@@ -42,7 +43,7 @@ module _ (s out other : List ℕ) where
       ≡ listing_for (read s) (search_answer_for c (read s)).kind (search_answer_for c (read s)) (search_output_for c (read s) other))
   unfolding search_answer_for search_output_for listing_for
   same_for zero e =
-      let ok : sheet_cause s ≡ 0 = (search_accepted s 16384 3072 e).0 in
+      let ok : sheet_cause s ≡ None = (search_accepted s 16384 3072 e).0 in
       (accepted_listable s ok (search_found (round_of (read s))).kind, found_same (read s) out other (round_of (read s)) (round_right s ok))
   same_for (suc c) e = (tt, refl)
 

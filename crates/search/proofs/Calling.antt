@@ -6,11 +6,12 @@ use mathlib.Core.List.{List, [], ◌∷◌}
 use native.Mathlib.Omega.{arith}
 use lib.ListN.{length}
 use borrow.Author.Tests.{le-leb, lt-leb}
-use Rattle.deck.specs.Causes.{short_workspace, wrong_length}
+use Rattle.deck.specs.declared.cause.Cause.TheVariants.{ShortWorkspace, WrongLength}
+use Rattle.std.specs.Prelude.{None}
 use Rattle.deck.specs.Sheet.{read, cause, sheet_cause}
 use Rattle.deck.specs.Planner.{plan_for, or_dark, round_of}
-use Rattle.deck.specs.Calls.{no_tasks, workspace_for, workspace_of, plan_words, search_cause, search_found, search_written, search_answer_for, search_output_for, search_answer, search_output, SearchCall}
-use Rattle.deck.specs.Numbers.{search_numbers}
+use Rattle.deck.specs.Calls.{workspace_for, workspace_of, plan_words, search_cause, search_found, search_written, search_answer_for, search_output_for, search_answer, search_output, SearchCall}
+use Rattle.deck.specs.Numbers.{search_numbers, no_tasks}
 use Rattle.deck.proofs.Told.{search_answered}
 use Rattle.deck.specs.declared.SearchAnswer.{SearchAnswer}
 use Rattle.deck.specs.declared.SearchKind.TheVariants.{Plan, Refused}
@@ -21,18 +22,18 @@ use Rattle.optimal.proofs.Written.{call_right}
 
 -- THE CAUSES in order
 module _ (s : List ℕ) (work out : ℕ) where
-  pub cause_first : (c : ℕ) → c ≡ sheet_cause s → c ≢ 0 → c ≡ search_cause s work out
+  pub cause_first : (c : ℕ) → c ≡ sheet_cause s → c ≢ None → c ≡ search_cause s work out
   unfolding search_cause
   cause_first zero e n = absurd (n refl)
   cause_first (suc c) e n = rw (← e) refl
 
-  module _ (ok : sheet_cause s ≡ 0) where
-    pub cause_work : work < workspace_of (read s) → short_workspace ≡ search_cause s work out
+  module _ (ok : sheet_cause s ≡ None) where
+    pub cause_work : work < workspace_of (read s) → ShortWorkspace ≡ search_cause s work out
     unfolding search_cause
     cause_work h = rw (ok, lt-leb (workspace_of (read s)) work h) refl
 
     module _ (e : workspace_of (read s) ≤ work) where
-      pub cause_out : out < plan_words (read s) → wrong_length ≡ search_cause s work out
+      pub cause_out : out < plan_words (read s) → WrongLength ≡ search_cause s work out
       unfolding search_cause
       cause_out h = rw (ok, le-leb (workspace_of (read s)) work e, lt-leb (plan_words (read s)) out h) refl
 
@@ -52,22 +53,22 @@ call_dark (b ∷ s) work out h = absurd (omega arith)
 
 module _ (s work out : List ℕ) where
   -- a refused one
-  pub call_refused : (c : ℕ) → c ≡ search_cause s (length work) (length out) → c ≢ 0
+  pub call_refused : (c : ℕ) → c ≡ search_cause s (length work) (length out) → c ≢ None
       → SearchCall s work out (search_numbers (record { kind = Refused c; tasks = no_tasks; flowtime = 0; nodes = 0; bound = 0 })) work out
   unfolding search_answer search_output search_answer_for search_output_for
   call_refused zero e n = absurd (n refl)
   call_refused (suc c) e n = record { answered = rw (← e) refl; written = rw (← e) refl; refused_work = λ _. refl; dark_work = λ _. refl }
 
-  module _ (ok : search_cause s (length work) (length out) ≡ 0) where
+  module _ (ok : search_cause s (length work) (length out) ≡ None) where
     -- what a sheet with bytes was lent
-    pub lent : length s ≢ 0 → (cause s ≡ 0) × (workspace_for (read s) ≤ length work) × (plan_words (read s) ≤ length out)
+    pub lent : length s ≢ 0 → (cause s ≡ None) × (workspace_for (read s) ≤ length work) × (plan_words (read s) ≤ length out)
     lent n =
         let a = search_accepted s (length work) (length out) ok in
-        let c : cause s ≡ 0 = sym (cause_with s n) ∙ a.0 in
+        let c : cause s ≡ None = sym (cause_with s n) ∙ a.0 in
         (c, rw (← workspace_with (read s) (accepted_count s c).0) a.1, a.2)
 
     -- and its answer
-    pub call_answered : cause s ≡ 0 → (answer : SearchAnswer) (work' out' : List ℕ)
+    pub call_answered : cause s ≡ None → (answer : SearchAnswer) (work' out' : List ℕ)
         → (answer ≡ search_found (plan_for (read s))) × (out' ≡ search_written (plan_for (read s)) out) → SearchCall s work out (search_numbers answer) work' out'
     unfolding search_answer search_output search_answer_for search_output_for
     call_answered c answer work' out' h =
@@ -77,7 +78,7 @@ module _ (s work out : List ℕ) where
           answered = ap search_numbers a;
           written = rw (ok, r) h.1;
           refused_work = λ n. absurd (n ok);
-          dark_work = λ e. let z : cause [] ≡ 0 = rw e at c in absurd (omega (arith, (accepted_count [] z).0));
+          dark_work = λ e. let z : cause [] ≡ None = rw e at c in absurd (omega (arith, (accepted_count [] z).0));
         }
 
   -- is right

@@ -9,8 +9,10 @@ use native.Mathlib.Nat.{mul-le-mul, one-le-mul}
 use native.Mathlib.Omega.{arith}
 use lib.Dec.{T, leb, leb→le}
 use lib.ListN.{length, get_or, length-take, length-drop, get_or-eq_default}
+use Rattle.deck.specs.declared.Stretch.{Stretch}
+use Rattle.std.specs.Prelude.{None}
 use Rattle.deck.specs.Lists.{below, all, distinct}
-use Rattle.deck.specs.Sheet.{Sheet, Stretch, area, grid_byte, carrier, task, start_of, goals_of, last_goal, most_goals, count_of, part, grid_pair, task_pair, grid_stretch, task_stretch, read, free, goals_size, good_grid, good_starts, good_goals, cause}
+use Rattle.deck.specs.Sheet.{Sheet, area, grid_byte, carrier, task, start_of, goals_of, last_goal, most_goals, count_of, part, grid_pair, task_pair, grid_stretch, task_stretch, read, free, goals_size, good_grid, good_starts, good_goals, cause}
 use Rattle.deck.specs.Calls.{workspace_for}
 use Rattle.deck.specs.declared.Carrier.{Carrier}
 use Rattle.deck.specs.declared.Task.{Task}
@@ -46,7 +48,7 @@ goals_size_says : (n : ℕ) → T (goals_size n) → ((2 ≤ n) × (n ≤ 16)) �
 unfolding goals_size
 goals_size_says n t = (says_and (says_and says_leb says_leb) says_eqb).fact t
 
-module _ (s : List ℕ) (ok : cause s ≡ 0) where
+module _ (s : List ℕ) (ok : cause s ≡ None) where
   -- the header
   pub width_range : (1 ≤ (read s).width) × ((read s).width ≤ 32)
   width_range = ((header_says s).fact (accepted s ok).header).0.0.0.0.0.0

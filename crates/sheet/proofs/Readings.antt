@@ -2,6 +2,7 @@
 use Prim.Native.Nat.{ℕ, zero, suc}
 use mathlib.Core.Path.{◌≡◌, refl}
 use mathlib.Core.List.{List, [], map}
+use Rattle.std.specs.Prelude.{None}
 use Rattle.deck.specs.Lists.{below}
 use Rattle.deck.specs.Sheet.{width_of, height_of, count_of, horizon_of, limit_of, pair_at, pairs_for, sheet_cause}
 use Rattle.deck.specs.Calls.{pair_list, reading_for, read_call}
@@ -24,7 +25,7 @@ offsets_to s n = pair_list (map (λ k. (pair_at s k).offset) (below n))
 abbrev pub lengths_to : List ℕ → ℕ → List ℕ
 lengths_to s n = pair_list (map (λ k. (pair_at s k).size) (below n))
 
-pub accepted : (s : List ℕ) {w h m t n p : ℕ} {o l : List ℕ} → sheet_cause s ≡ 0 → p ≡ pairs_for (count_of s) → o ≡ offsets_to s p → l ≡ lengths_to s p
+pub accepted : (s : List ℕ) {w h m t n p : ℕ} {o l : List ℕ} → sheet_cause s ≡ None → p ≡ pairs_for (count_of s) → o ≡ offsets_to s p → l ≡ lengths_to s p
     → w ≡ width_of s → h ≡ height_of s → m ≡ count_of s → t ≡ horizon_of s → n ≡ limit_of s → reading 0 w h m t n o l ≡ read_call s
 unfolding read_call reading_for
 accepted s ok p o l w h m t n = rw (o, l, w, h, m, t, n, p, ok) refl

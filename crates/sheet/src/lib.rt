@@ -3,7 +3,7 @@
 // alone is said as an implication.
 #![tactic(auto)]
 
-ghost use Rattle.std.specs.Prelude.{◌≡◌, ◌<◌, ◌≤◌, max, length, get_or};
+ghost use Rattle.std.specs.Prelude.{◌≡◌, ◌<◌, ◌≤◌, max, length, get_or, None};
 ghost use Rattle.deck.specs.Sheet.{width_of, height_of, count_of, horizon_of, limit_of, part, grid_stretch, read, area, grid_byte, free, start_of, goals_of, last_goal, most_goals, cause, sheet_cause};
 ghost use Rattle.deck.specs.Calls.{workspace_for, workspace_of, read_call, goals_call};
 ghost use Rattle.sheet_parts.specs.Part.{BeginsAt};
@@ -20,7 +20,7 @@ pub fn cause(s: &[u8]) -> u8
 
 // Of an accepted sheet the header and the directory's pairs; past the last pair the arrays hold 0.
 fn read_accepted(s: &[u8]) -> Reading
-    requires { sheet_cause s.now ≡ 0 }
+    requires { sheet_cause s.now ≡ None }
     ensures { result ≡ read_call s.now }
 {
     let n = sheet_parts::pairs(s);
@@ -131,7 +131,7 @@ pub fn grid_offset(s: &[u8]) -> usize
 // left only to the north, east, south or west.
 pub fn grid_byte(s: &[u8], v: usize) -> u8
     ensures value { result ≡ grid_byte (read s.now) v }
-    ensures upper_bound { cause s.now ≡ 0 → result ≤ 5 }
+    ensures upper_bound { cause s.now ≡ None → result ≤ 5 }
 {
     sheet_parts::cell(s, v)
 }
@@ -146,7 +146,7 @@ pub fn is_free(s: &[u8], v: usize) -> bool
 // The place at which the carrier i starts, 0 past the last start.
 pub fn start(s: &[u8], i: Carrier) -> usize
     ensures value { result ≡ start_of (read s.now) i }
-    ensures upper_bound { cause s.now ≡ 0 → result < area (read s.now) }
+    ensures upper_bound { cause s.now ≡ None → result < area (read s.now) }
     ensures upper_bound_2 { result < 65536 }
 {
     let k = i.0;
@@ -156,8 +156,8 @@ pub fn start(s: &[u8], i: Carrier) -> usize
 // How many goals the task j has.
 pub fn goal_count(s: &[u8], j: Task) -> usize
     ensures value { result ≡ length (goals_of (read s.now) j) }
-    ensures upper_bound { cause s.now ≡ 0 → result ≤ 8 }
-    ensures result_nonzero { cause s.now ≡ 0 → j.0 < count_of s.now → 0 < result }
+    ensures upper_bound { cause s.now ≡ None → result ≤ 8 }
+    ensures result_nonzero { cause s.now ≡ None → j.0 < count_of s.now → 0 < result }
 {
     sheet_parts::goals_number(s, j)
 }
@@ -165,7 +165,7 @@ pub fn goal_count(s: &[u8], j: Task) -> usize
 // The goal k of the task j, counted from 0; 0 past its last.
 pub fn goal(s: &[u8], j: Task, k: usize) -> usize
     ensures value { result ≡ get_or (goals_of (read s.now) j) k 0 }
-    ensures upper_bound { cause s.now ≡ 0 → result < area (read s.now) }
+    ensures upper_bound { cause s.now ≡ None → result < area (read s.now) }
     ensures upper_bound_2 { result < 65536 }
 {
     sheet_parts::nth_word(sheet_parts::task_part(s, j), k)
@@ -174,7 +174,7 @@ pub fn goal(s: &[u8], j: Task, k: usize) -> usize
 // The last goal of the task j, 0 where it has none.
 pub fn last_goal(s: &[u8], j: Task) -> usize
     ensures value { result ≡ last_goal (read s.now) j }
-    ensures upper_bound { cause s.now ≡ 0 → result < area (read s.now) }
+    ensures upper_bound { cause s.now ≡ None → result < area (read s.now) }
     ensures upper_bound_2 { result < 65536 }
 {
     sheet_parts::last_word(sheet_parts::task_part(s, j))
@@ -211,7 +211,7 @@ fn formula(s: &[u8]) -> usize
 // How many words of 32 bits of workspace the sheet asks for: none without carriers.
 pub fn workspace(s: &[u8]) -> usize
     ensures value { result ≡ workspace_of (read s.now) }
-    ensures upper_bound { sheet_cause s.now ≡ 0 → result < 8388608 }
+    ensures upper_bound { sheet_cause s.now ≡ None → result < 8388608 }
 {
     if count(s) == 0 { 0 } else { formula(s) }
 }

@@ -4,8 +4,9 @@ use mathlib.Core.Path.{◌≡◌, refl, sym, ◌∙◌}
 use mathlib.Core.Bool.{Bool, true, false, not, ◌&&◌}
 use mathlib.Core.List.{List}
 use borrow.Author.Tests.{not-true, not-false}
-use Rattle.deck.specs.Causes.{bad_header, bad_directory, bad_grid, bad_start, bad_goal, shared_last_goal}
-use Rattle.deck.specs.Sheet.{read, good_header, good_directory, good_grid, good_starts, good_goals, good_last_goals, unless, ◌or_else◌}
+use Rattle.deck.specs.declared.cause.Cause.TheVariants.{BadDirectory, BadGoal, BadGrid, BadHeader, BadStart, SharedLastGoal}
+use Rattle.deck.specs.Causes.{unless, ◌or_else◌}
+use Rattle.deck.specs.Sheet.{read, good_header, good_directory, good_grid, good_starts, good_goals, good_last_goals}
 
 module _ {b t : Bool} (e : b ≡ t) where
   pub passed : not b ≡ false → t ≡ true
@@ -30,19 +31,19 @@ module _ {b t : Bool} (e : b ≡ t) where
 
 -- the causes from a number on
 abbrev pub from7 : List ℕ → ℕ
-from7 s = unless (good_last_goals (read s)) shared_last_goal
+from7 s = unless (good_last_goals (read s)) SharedLastGoal
 
 abbrev pub from6 : List ℕ → ℕ
-from6 s = unless (good_goals (read s)) bad_goal or_else from7 s
+from6 s = unless (good_goals (read s)) BadGoal or_else from7 s
 
 abbrev pub from5 : List ℕ → ℕ
-from5 s = unless (good_starts (read s)) bad_start or_else from6 s
+from5 s = unless (good_starts (read s)) BadStart or_else from6 s
 
 abbrev pub from4 : List ℕ → ℕ
-from4 s = unless (good_grid (read s)) bad_grid or_else from5 s
+from4 s = unless (good_grid (read s)) BadGrid or_else from5 s
 
 abbrev pub from3 : List ℕ → ℕ
-from3 s = unless (good_directory s) bad_directory or_else from4 s
+from3 s = unless (good_directory s) BadDirectory or_else from4 s
 
 abbrev pub from2 : List ℕ → ℕ
-from2 s = unless (good_header s) bad_header or_else from3 s
+from2 s = unless (good_header s) BadHeader or_else from3 s

@@ -8,9 +8,12 @@ use native.Mathlib.Omega.{arith}
 use lib.Dec.{ltb}
 use lib.ListN.{length, get_or, length-map, get_or-eq_default, get_or-map}
 use borrow.Author.Tests.{lt-ltb, le-ltb}
-use Rattle.deck.specs.Causes.{bad_number}
+use Rattle.deck.specs.declared.cause.Cause.TheVariants.{BadNumber}
+use Rattle.deck.specs.declared.Stretch.{Stretch}
+use Rattle.deck.specs.Causes.{unless, ◌or_else◌}
+use Rattle.std.specs.Prelude.{None}
 use Rattle.deck.specs.Lists.{below}
-use Rattle.deck.specs.Sheet.{Stretch, count_of, task, task_pair, task_stretch, part, words, read, goals_of, sheet_cause, unless, ◌or_else◌}
+use Rattle.deck.specs.Sheet.{count_of, task, task_pair, task_stretch, part, words, read, goals_of, sheet_cause}
 use Rattle.deck.specs.Calls.{stretch_for, goals_cause, goals_call}
 use Rattle.deck.specs.declared.Task.{Task}
 use Rattle.meaning.proofs.Lists.{get_or_tabulate, length_count_from}
@@ -54,15 +57,15 @@ unchosen zero m r h = absurd (h refl)
 unchosen (suc n) m r h = refl
 
 module _ (s : List ℕ) (j : Task) where
-  pub goals_accepted : sheet_cause s ≡ 0 → goals_call s j ≡ task_part s j
+  pub goals_accepted : sheet_cause s ≡ None → goals_call s j ≡ task_part s j
   unfolding goals_call goals_cause
   goals_accepted e = rw e refl
 
-  pub goals_refused : (sheet_cause s ≡ 0 → ⊥) → goals_call s j ≡ nowhere
+  pub goals_refused : (sheet_cause s ≡ None → ⊥) → goals_call s j ≡ nowhere
   unfolding goals_call goals_cause
-  goals_refused h = unchosen (sheet_cause s) (unless (ltb j.0 (count_of s)) bad_number) (task_stretch s j) h
+  goals_refused h = unchosen (sheet_cause s) (unless (ltb j.0 (count_of s)) BadNumber) (task_stretch s j) h
 
-  pub part_begins : sheet_cause s ≡ 0 → (task_part s j).offset ≤ length s
+  pub part_begins : sheet_cause s ≡ None → (task_part s j).offset ≤ length s
   part_begins ok = go (dec_le (count_of s) j.0)
     where
       go : Dec (count_of s ≤ j.0) → (task_part s j).offset ≤ length s

@@ -51,7 +51,7 @@ module _ (w : Problem (List ℕ) Constraint) (limit : ℕ) where
   no_fewer : (st next : St) → turn w limit cheapest st ≡ more next → st.made ≤ next.made
   no_fewer st next e = subst (NoFewer st.made) e (turned_with st (cheapest st.opened))
 
-module _ (s : List ℕ) (ok : cause s ≡ 0) where
+module _ (s : List ℕ) (ok : cause s ≡ None) where
   -- the first root
   pub start_going : (work a : List ℕ) (rest : List (List ℕ)) → (problem (read s)).assignments ≡ a ∷ rest
       → Held (read s) work 1 1 (record { opened = root_of (problem (read s)) a ∷ []; made = 1; rest = rest }) → Going s work 1 1 0

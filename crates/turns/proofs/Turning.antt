@@ -115,7 +115,7 @@ pub turn_nothing : (d : Sheet) (work : List ℕ) (made latest k : ℕ) (st : St)
     → turn (problem d) d.limit cheapest st ≡ done (no_plan made)
 turn_nothing d work made latest k st (held, inv) e = rw (← held.opened, e, held.number)
 
-module _ (s : List ℕ) (ok : cause s ≡ 0) where
+module _ (s : List ℕ) (ok : cause s ≡ None) where
   pub deck_laws : Laws (problem (read s)) (rules (read s))
   deck_laws = laws (read s) (accepted_start s ok) (omega (arith, accepted_horizon s ok))
 
@@ -217,7 +217,7 @@ pub record Took (s work closed : List ℕ) (made n cost : ℕ) : Type 0 where
   pub taken : Cheapest (read s) (read s).limit work made (Open n cost)
   pub is : closed ≡ with_key (read s).limit n closed_key work
 
-module _ (s : List ℕ) (ok : cause s ≡ 0) (work : List ℕ) (made latest k : ℕ) (st : St) (turning : Turning (read s) work made latest k st) where
+module _ (s : List ℕ) (ok : cause s ≡ None) (work : List ℕ) (made latest k : ℕ) (st : St) (turning : Turning (read s) work made latest k st) where
   -- by the pick
   pub pick_is : (limit : ℕ) → limit ≡ (read s).limit → (r x : Pick) → ((d : Sheet) → Fits d → Stored d limit work made → Cheapest d limit work made r) → r ≡ x
       → Cheapest (read s) (read s).limit work made x

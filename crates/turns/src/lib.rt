@@ -1,7 +1,7 @@
 // The turns of the search on the workspace.
 #![tactic(auto)]
 
-ghost use Rattle.std.specs.Prelude.{◌≡◌, List, [], ◌∷◌, ℕ, ◌+◌, ◌*◌, ◌<◌, ◌≤◌, length};
+ghost use Rattle.std.specs.Prelude.{◌≡◌, List, [], ◌∷◌, ℕ, ◌+◌, ◌*◌, ◌<◌, ◌≤◌, length, None};
 ghost use Rattle.deck.specs.Sheet.{read, count_of, cause};
 ghost use Rattle.deck.specs.Search.{State, root_of, rest_after, turn, cheapest};
 ghost use Rattle.deck.specs.Planner.{problem, bound_by, sides, plan_for};
@@ -85,7 +85,7 @@ fn collision_of(
     n: usize,
     paths: &mut [u16; 3072],
 ) -> CollisionAnswer
-    requires { (cause s.now ≡ 0) × StartsOf (read s.now) starts.now × (512 * n + 512 ≤ length work.now) }
+    requires { (cause s.now ≡ None) × StartsOf (read s.now) starts.now × (512 * n + 512 ≤ length work.now) }
     ensures { result ≡ collision_found (first_collision (count_of s.now) (read s.now).horizon (node_at (read s.now) work.now n).paths) }
 {
     let w = sheet::width(s);

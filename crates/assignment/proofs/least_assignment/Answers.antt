@@ -38,7 +38,7 @@ returns-then-table-n c =
 
 pub returns-then-not-first : goal.returns-then-not-first
 returns-then-not-first c =
-    let passed : assignment_cause c.wide-n.result c.args.table.now ≡ 0 = accepted _ _ c.if-n-lt1.false c.if-n-gt12.false c.if-table-n.false in
+    let passed : assignment_cause c.wide-n.result c.args.table.now ≡ None = accepted _ _ c.if-n-lt1.false c.if-n-gt12.false c.if-table-n.false in
     let w = c in
     let n = w.wide-n.result in
     let table = w.args.table.now in
@@ -53,7 +53,7 @@ priced-requires c =
 
 pub returns : goal.returns
 returns c =
-    let passed : assignment_cause c.wide-n.result c.args.table.now ≡ 0 = accepted _ _ c.if-n-lt1.false c.if-n-gt12.false c.if-table-n.false in
+    let passed : assignment_cause c.wide-n.result c.args.table.now ≡ None = accepted _ _ c.if-n-lt1.false c.if-n-gt12.false c.if-table-n.false in
     let w = c in
     let n = w.wide-n.result in
     let table = w.args.table.now in

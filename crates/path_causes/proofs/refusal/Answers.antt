@@ -4,6 +4,7 @@ use mathlib.Core.Path.{◌≡◌, sym, ◌∙◌}
 use mathlib.Core.Bool.{true}
 use Prim.Native.Nat.{◌<◌, ◌≤◌}
 use borrow.Author.Tests.{not-true, not-false}
+use Rattle.std.specs.Prelude.{None}
 use Rattle.deck.specs.Sheet.{read, count_of, sheet_cause}
 use Rattle.deck.specs.Calls.{good_records, workspace_of}
 use Rattle.meaning.proofs.Dark.{with_carriers}
@@ -17,7 +18,7 @@ returns-then-c-ne0 c =
 
 pub returns-then-m-i : goal.returns-then-m-i
 returns-then-m-i c =
-    let accepted : sheet_cause c.args.s.now ≡ 0 = sym c.cause-c.ensures ∙ c.if-c-ne0.false in
+    let accepted : sheet_cause c.args.s.now ≡ None = sym c.cause-c.ensures ∙ c.if-c-ne0.false in
     let e1 = c in
     let a = e1.args in
     cause_carrier a.s.now a.i a.j a.work a.out a.records.now accepted
@@ -25,7 +26,7 @@ returns-then-m-i c =
 
 pub returns-then-m-j : goal.returns-then-m-j
 returns-then-m-j c =
-    let accepted : sheet_cause c.args.s.now ≡ 0 = sym c.cause-c.ensures ∙ c.if-c-ne0.false in
+    let accepted : sheet_cause c.args.s.now ≡ None = sym c.cause-c.ensures ∙ c.if-c-ne0.false in
     let carrier_in : let a = c.args in a.i.0 < count_of a.s.now = omega (arith, c.count-m.ensures.value, c.if-m-i.false) in
     let e2 = c in
     let e1 = e2 in
@@ -35,13 +36,13 @@ returns-then-m-j c =
 
 pub good_records-requires : goal.good_records-requires
 good_records-requires c =
-    let accepted : sheet_cause c.args.s.now ≡ 0 = sym c.cause-c.ensures ∙ c.if-c-ne0.false in
+    let accepted : sheet_cause c.args.s.now ≡ None = sym c.cause-c.ensures ∙ c.if-c-ne0.false in
     let carrier_in : c.args.i.0 < count_of c.args.s.now = omega (arith, c.count-m.ensures.value, c.if-m-i.false) in
     with_carriers c.args.s.now accepted (omega (arith, carrier_in))
 
 pub returns-then-not-good_records : goal.returns-then-not-good_records
 returns-then-not-good_records c =
-    let accepted : sheet_cause c.args.s.now ≡ 0 = sym c.cause-c.ensures ∙ c.if-c-ne0.false in
+    let accepted : sheet_cause c.args.s.now ≡ None = sym c.cause-c.ensures ∙ c.if-c-ne0.false in
     let carrier_in : let a = c.args in a.i.0 < count_of a.s.now = omega (arith, c.count-m.ensures.value, c.if-m-i.false) in
     let task_in : let a = c.args in a.j.0 < count_of a.s.now = omega (arith, c.count-m.ensures.value, c.if-m-j.false) in
     let e3 = c in
@@ -53,7 +54,7 @@ returns-then-not-good_records c =
 
 pub returns-then-work-room : goal.returns-then-work-room
 returns-then-work-room c =
-    let accepted : sheet_cause c.args.s.now ≡ 0 = sym c.cause-c.ensures ∙ c.if-c-ne0.false in
+    let accepted : sheet_cause c.args.s.now ≡ None = sym c.cause-c.ensures ∙ c.if-c-ne0.false in
     let carrier_in : let a = c.args in a.i.0 < count_of a.s.now = omega (arith, c.count-m.ensures.value, c.if-m-i.false) in
     let task_in : let a = c.args in a.j.0 < count_of a.s.now = omega (arith, c.count-m.ensures.value, c.if-m-j.false) in
     let records_good : let a = c.args in good_records (read a.s.now) a.records.now ≡ true = sym c.good_records.ensures ∙ not-false _ c.if-not-good_records.false-raw in
@@ -69,7 +70,7 @@ returns-then-work-room c =
 
 pub returns-then-out-words : goal.returns-then-out-words
 returns-then-out-words c =
-    let accepted : sheet_cause c.args.s.now ≡ 0 = sym c.cause-c.ensures ∙ c.if-c-ne0.false in
+    let accepted : sheet_cause c.args.s.now ≡ None = sym c.cause-c.ensures ∙ c.if-c-ne0.false in
     let carrier_in : let a = c.args in a.i.0 < count_of a.s.now = omega (arith, c.count-m.ensures.value, c.if-m-i.false) in
     let task_in : let a = c.args in a.j.0 < count_of a.s.now = omega (arith, c.count-m.ensures.value, c.if-m-j.false) in
     let records_good : let a = c.args in good_records (read a.s.now) a.records.now ≡ true = sym c.good_records.ensures ∙ not-false _ c.if-not-good_records.false-raw in
@@ -86,7 +87,7 @@ returns-then-out-words c =
 
 pub returns : goal.returns
 returns c =
-    let accepted : sheet_cause c.args.s.now ≡ 0 = sym c.cause-c.ensures ∙ c.if-c-ne0.false in
+    let accepted : sheet_cause c.args.s.now ≡ None = sym c.cause-c.ensures ∙ c.if-c-ne0.false in
     let carrier_in : let a = c.args in a.i.0 < count_of a.s.now = omega (arith, c.count-m.ensures.value, c.if-m-i.false) in
     let task_in : let a = c.args in a.j.0 < count_of a.s.now = omega (arith, c.count-m.ensures.value, c.if-m-j.false) in
     let records_good : let a = c.args in good_records (read a.s.now) a.records.now ≡ true = sym c.good_records.ensures ∙ not-false _ c.if-not-good_records.false-raw in

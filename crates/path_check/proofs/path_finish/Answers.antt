@@ -4,6 +4,7 @@ use mathlib.Core.Path.{◌≡◌, sym, ap, ◌∙◌}
 use mathlib.Core.List.{List}
 use Prim.Native.Nat.{ℕ}
 use native.Mathlib.Omega.{arith}
+use Rattle.std.specs.Prelude.{None}
 use Rattle.deck.specs.Lists.{is_nil}
 use Rattle.deck.specs.Sheet.{read, cause, width_of}
 use Rattle.deck.specs.Paths.{left}
@@ -14,7 +15,7 @@ use Rattle.path_check.proofs.Walks.{not_begun, not_going, not_visited, not_finis
 use Rattle.path_check.proofs.path_finish.Goals as goal
 
 -- the grid that was handed to goes
-handed : (s : List ℕ) (w : ℕ) (g : List ℕ) → cause s ≡ 0 → w ≡ width_of s → g ≡ (read s).grid → GridOf (read s) w g
+handed : (s : List ℕ) (w : ℕ) (g : List ℕ) → cause s ≡ None → w ≡ width_of s → g ≡ (read s).grid → GridOf (read s) w g
 handed s w g ok e b = record { across = e; bytes = b; whole = rw b (grid_length s ok) }
 
 pub returns-then-wide-start : goal.returns-then-wide-start

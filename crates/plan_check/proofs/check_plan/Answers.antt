@@ -8,6 +8,7 @@ use native.Mathlib.Numerals.{add-one}
 use native.Mathlib.Omega.{arith}
 use lib.ListN.{take, drop}
 use lib.Dec.{eqb}
+use Rattle.std.specs.Prelude.{None}
 use Rattle.deck.specs.Lists.{all, is_nil, pieces}
 use Rattle.deck.specs.Sheet.{read, sheet_cause, width_of, count_of, horizon_of}
 use Rattle.deck.specs.Collisions.{collisions}
@@ -22,7 +23,7 @@ use Rattle.plan_check.proofs.check_plan.Goals as goal
 
 -- what is known once the sheet is accepted, by the numbers of the reading
 module _ (s : List ℕ) (r : Reading) (e : r ≡ read_call s) (z : r.cause ≡ 0) where
-  ok : sheet_cause s ≡ 0
+  ok : sheet_cause s ≡ None
   ok = sym (reading_cause s) ∙ sym (ap (λ x. x.cause) e) ∙ z
 
   w_is : r.width ≡ width_of s

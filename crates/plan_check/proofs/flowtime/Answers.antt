@@ -6,6 +6,7 @@ use native.Mathlib.Numerals.{add-one}
 use native.Mathlib.Omega.{arith}
 use lib.ListN.{length, get_or, take}
 use lib.Seq.{length-take-le, get_or-take}
+use Rattle.std.specs.Prelude.{None}
 use Rattle.deck.specs.Sheet.{sheet_cause, count_of}
 use Rattle.collision_scan.specs.Words.{Row}
 use Rattle.collision_scan.proofs.Words.{row_within}
@@ -13,10 +14,10 @@ use Rattle.meaning.proofs.Dark.{most_carriers, short_horizon, with_carriers}
 use Rattle.plan_check.proofs.Flow.{flow_start, flow_over, flow_next, flow_none, flow_refused, path_small, pieces_length, piece_is, piece_long}
 use Rattle.plan_check.proofs.flowtime.Goals as goal
 
-few : (s : List ℕ) (m : ℕ) → sheet_cause s ≡ 0 → m ≡ count_of s → m ≤ 12
+few : (s : List ℕ) (m : ℕ) → sheet_cause s ≡ None → m ≡ count_of s → m ≤ 12
 few s m ok e = omega (arith, most_carriers s ok)
 
-listed : (s tasks : List ℕ) (m : ℕ) → sheet_cause s ≡ 0 → m ≡ count_of s → length tasks ≡ 12 → length (take m tasks) ≡ m
+listed : (s tasks : List ℕ) (m : ℕ) → sheet_cause s ≡ None → m ≡ count_of s → length tasks ≡ 12 → length (take m tasks) ≡ m
 listed s tasks m ok e n = length-take-le m tasks (omega (arith, few s m ok e))
 
 -- the words of a carrier are within the words

@@ -3,6 +3,7 @@ use mathlib.Core.Path.{◌≡◌, refl, sym, ◌∙◌}
 use Prim.Native.Nat.{◌+◌, ◌*◌, ◌≤◌}
 use native.Mathlib.Numerals.{add-one}
 use native.Mathlib.Omega.{arith}
+use Rattle.std.specs.Prelude.{None}
 use Rattle.deck.specs.Sheet.{read, sheet_cause}
 use Rattle.deck.specs.Calls.{plan_words, workspace_of}
 use Rattle.search.proofs.Calling.{cause_first, cause_work, cause_out, cause_none}
@@ -15,7 +16,7 @@ returns-then-c-ne0 c =
 
 pub returns-then-work-room : goal.returns-then-work-room
 returns-then-work-room c =
-    let accepted : sheet_cause c.args.s.now ≡ 0 = sym c.cause-c.ensures ∙ c.if-c-ne0.false in
+    let accepted : sheet_cause c.args.s.now ≡ None = sym c.cause-c.ensures ∙ c.if-c-ne0.false in
     let room_is : c.workspace-room.result ≡ workspace_of (read c.args.s.now) = c.workspace-room.ensures.value in
     let w = c in
     let a = w.args in
@@ -23,7 +24,7 @@ returns-then-work-room c =
 
 pub returns-then-out-words : goal.returns-then-out-words
 returns-then-out-words c =
-    let accepted : sheet_cause c.args.s.now ≡ 0 = sym c.cause-c.ensures ∙ c.if-c-ne0.false in
+    let accepted : sheet_cause c.args.s.now ≡ None = sym c.cause-c.ensures ∙ c.if-c-ne0.false in
     let words_are : c.count.result * (c.horizon.result + 1) ≡ plan_words (read c.args.s.now) = rw (c.count.ensures.value, c.horizon.ensures.value, add-one) refl in
     let room_is : c.workspace-room.result ≡ workspace_of (read c.args.s.now) = c.workspace-room.ensures.value in
     let enough : (let a = c.args in workspace_of (read a.s.now) ≤ a.work) = omega (arith, c.if-work-room.false, room_is) in
@@ -33,7 +34,7 @@ returns-then-out-words c =
 
 pub returns : goal.returns
 returns c =
-    let accepted : sheet_cause c.args.s.now ≡ 0 = sym c.cause-c.ensures ∙ c.if-c-ne0.false in
+    let accepted : sheet_cause c.args.s.now ≡ None = sym c.cause-c.ensures ∙ c.if-c-ne0.false in
     let words_are : c.count.result * (c.horizon.result + 1) ≡ plan_words (read c.args.s.now) = rw (c.count.ensures.value, c.horizon.ensures.value, add-one) refl in
     let room_is : c.workspace-room.result ≡ workspace_of (read c.args.s.now) = c.workspace-room.ensures.value in
     let enough : (let a = c.args in workspace_of (read a.s.now) ≤ a.work) = omega (arith, c.if-work-room.false, room_is) in

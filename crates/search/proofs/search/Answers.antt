@@ -1,6 +1,7 @@
 -- `search` meets its contract: the record of the call, refused or accepted, and demand 3 by it. Assumes nothing.
 use mathlib.Core.Path.{◌≡◌, sym, subst, ◌∙◌}
 use lib.ListN.{length}
+use Rattle.std.specs.Prelude.{None}
 use Rattle.deck.specs.Calls.{search_cause, SearchCall}
 use Rattle.deck.specs.Numbers.{search_numbers}
 use Rattle.deck.specs.declared.SearchAnswer.{SearchAnswer}
@@ -29,7 +30,7 @@ accepted-requires c =
 pub returns : goal.returns
 returns c =
     let a = c.args in
-    let accepted : search_cause a.s.now (length a.work.now) (length a.out.now) ≡ 0 = sym c.refusal-c.ensures ∙ c.if-c-ne0.false in
+    let accepted : search_cause a.s.now (length a.work.now) (length a.out.now) ≡ None = sym c.refusal-c.ensures ∙ c.if-c-ne0.false in
     let r = c.accepted in
     let call : SearchCall a.s.now a.work.now a.out.now (search_numbers r.result) r.new.work r.new.out =
     call_answered a.s.now a.work.now a.out.now accepted (lent a.s.now a.work.now a.out.now accepted c.if-s-eq0.false).0 r.result r.new.work r.new.out r.ensures in
