@@ -1,3 +1,4 @@
+pub mod Iterators
 pub mod Tests
 pub mod Lists
 pub mod ListTests

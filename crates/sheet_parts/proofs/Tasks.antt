@@ -1,5 +1,5 @@
 -- Laws of a task's goals: those of the task's stretch, and none where there is no such task. Assumes nothing.
-use Prim.Native.Nat.{ℕ, zero, suc, ◌≤◌, ◌<◌}
+use Prim.Native.Nat.{ℕ, ◌≤◌, ◌<◌}
 use mathlib.Core.Path.{◌≡◌, refl, ◌∙◌, subst}
 use mathlib.Core.List.{List, [], map}
 use native.Mathlib.Nat.{zero-add}
@@ -11,18 +11,16 @@ use borrow.Author.Tests.{lt-ltb, le-ltb}
 use Rattle.deck.specs.declared.cause.Cause.TheVariants.{BadNumber}
 use Rattle.deck.specs.declared.Stretch.{Stretch}
 use Rattle.deck.specs.Causes.{unless, ◌or_else◌}
-use Rattle.std.specs.Prelude.{None}
+use Rattle.std.specs.Prelude.{Option, None, Some}
+use Rattle.deck.specs.declared.cause.Cause.{Cause}
 use Rattle.deck.specs.Lists.{below}
 use Rattle.deck.specs.Sheet.{count_of, task, task_pair, task_stretch, part, words, read, goals_of, sheet_cause}
-use Rattle.deck.specs.Calls.{stretch_for, goals_cause, goals_call}
+use Rattle.deck.specs.Calls.{nowhere, stretch_for, goals_cause, goals_call}
 use Rattle.deck.specs.declared.Task.{Task}
 use Rattle.meaning.proofs.Lists.{get_or_tabulate, length_count_from}
 use Rattle.meaning.proofs.Accepted.{accepted_inside}
 use Rattle.meaning.proofs.Dark.{with_carriers}
 use Rattle.sheet_parts.specs.Part.{task_part}
-
-abbrev pub nowhere : Stretch
-nowhere = record { offset = 0; size = 0 }
 
 pub tasks_length : (s : List ℕ) → length (read s).tasks ≡ count_of s
 tasks_length s =
@@ -52,9 +50,9 @@ module _ (f : List ℕ → ℕ) (s : List ℕ) where
   each_task_at j e = subst (λ (d : ℕ). get_or (map f (read s).tasks) j d ≡ f (goals_of (read s) (task j))) e (get_or-map f (read s).tasks j [])
 
 -- the part that the call for a task's goals hands back
-unchosen : (n m : ℕ) (r : Stretch) → (n ≡ 0 → ⊥) → stretch_for (n or_else m) r ≡ nowhere
-unchosen zero m r h = absurd (h refl)
-unchosen (suc n) m r h = refl
+unchosen : (c d : Option Cause) (r : Stretch) → (c ≡ None → ⊥) → stretch_for (c or_else d) r ≡ nowhere
+unchosen None d r h = absurd (h refl)
+unchosen (Some c) d r h = refl
 
 module _ (s : List ℕ) (j : Task) where
   pub goals_accepted : sheet_cause s ≡ None → goals_call s j ≡ task_part s j

@@ -7,7 +7,7 @@ ghost use Rattle.deck.specs.Lists.{last};
 ghost use Rattle.deck.specs.Sheet.{byte_at, word_at, width_of, height_of, count_of, horizon_of, limit_of, part, pair_at, pairs_for, directory_end, words, read, area, grid_byte, free, goals_of};
 ghost use Rattle.sheet_parts.specs.Part.{BeginsAt, task_part};
 
-use deck::Task;
+use deck::{Stretch, Task};
 
 // Where the header's values stand: a byte each, and two for the node limit.
 const WIDTH: usize = 0;
@@ -27,18 +27,12 @@ pub const STARTS: usize = 1;
 
 pub const TASKS: usize = 2;
 
-// The byte k.
+// The byte k, 0 past the end.
 fn byte_at(s: &[u8], k: usize) -> usize
     ensures value { result ≡ byte_at s.now k }
     ensures upper_bound { result < 256 }
 {
-    if k < s.len() { wide(s[k]) } else { 0 }
-}
-
-fn wide(x: u8) -> usize
-    ensures { (result ≡ x) × (result < 256) }
-{
-    x as usize
+    s.get(k).map_or(0, |byte| usize::from(*byte))
 }
 
 // The two-byte value at k, low byte first.
@@ -104,27 +98,16 @@ pub fn directory_end(s: &[u8]) -> usize
     8 + 4 * pairs(s)
 }
 
-// The offset and the length of the pair k of the directory.
-pub fn pair_offset(s: &[u8], k: usize) -> usize
+// The pair k of the directory.
+pub fn pair_at(s: &[u8], k: usize) -> Stretch
     requires { k < 65536 }
-    ensures value { result ≡ (pair_at s.now k).offset }
-    ensures upper_bound { result < 65536 }
+    ensures value { result ≡ pair_at s.now k }
+    ensures upper_bound { (result.offset < 65536) × (result.size < 65536) }
 {
-    word_at(s, 8 + 4 * k)
-}
-
-pub fn pair_size(s: &[u8], k: usize) -> usize
-    requires { k < 65536 }
-    ensures value { result ≡ (pair_at s.now k).size }
-    ensures upper_bound { result < 65536 }
-{
-    word_at(s, 10 + 4 * k)
-}
-
-fn least(a: usize, b: usize) -> usize
-    ensures { result ≡ min a b }
-{
-    if a < b { a } else { b }
+    Stretch {
+        offset: word_at(s, 8 + 4 * k),
+        size: word_at(s, 10 + 4 * k),
+    }
 }
 
 // The stretch that the pair k of the directory names, cut off where the sheet ends.
@@ -134,9 +117,10 @@ pub fn stretch<'a>(s: &'a [u8], k: usize) -> &'a [u8]
     ensures begins_at { (pair_at s.now k).offset ≤ length s.now → BeginsAt (pair_at s.now k).offset s.entry result }
     ensures result_len_bound { length result.now < 65536 }
 {
+    let pair = pair_at(s, k);
     let n = s.len();
-    let start = least(pair_offset(s, k), n);
-    let end = least(start + pair_size(s, k), n);
+    let start = pair.offset.min(n);
+    let end = (start + pair.size).min(n);
     &s[start..end]
 }
 
@@ -157,11 +141,7 @@ pub fn last_word(p: &[u8]) -> usize
     ensures value { result ≡ last 0 (words p.now) }
     ensures upper_bound { result < 65536 }
 {
-    let n = p.len() / 2;
-    if n == 0 {
-        return 0;
-    }
-    nth_word(p, n - 1)
+    nth_word(p, (p.len() / 2).saturating_sub(1))
 }
 
 // The stretch of the task j, empty at the sheet's start where there is no such task.
@@ -184,8 +164,7 @@ pub fn goals_number(s: &[u8], j: Task) -> usize
     ensures value { result ≡ length (goals_of (read s.now) j) }
     ensures upper_bound { result < 32768 }
 {
-    let goals = task_part(s, j);
-    goals.len() / 2
+    task_part(s, j).len() / 2
 }
 
 // How many places the grid has.
@@ -197,16 +176,15 @@ pub fn area(s: &[u8]) -> usize
 }
 
 // The grid byte of the place v, 0 past the grid.
-pub fn cell(s: &[u8], v: usize) -> u8
+pub fn grid_byte(s: &[u8], v: usize) -> u8
     ensures { result ≡ grid_byte (read s.now) v }
 {
-    let g = stretch(s, GRID);
-    if v < g.len() { g[v] } else { 0 }
+    stretch(s, GRID).get(v).copied().unwrap_or(0)
 }
 
-// v is a place of the grid that is not blocked.
-pub fn free_place(s: &[u8], v: usize) -> bool
+// v is a place of the grid that is not blocked: its byte is 0, or 2 to 5, with which only leaving it is limited.
+pub fn is_free(s: &[u8], v: usize) -> bool
     ensures { result ≡ free (read s.now) v }
 {
-    if v < area(s) { cell(s, v) != 1 } else { false }
+    v < area(s) && grid_byte(s, v) != 1
 }

@@ -1,14 +1,9 @@
--- `sheet_causes::again` meets its contract: the test from `from` on is the test of the places that are left. Assumes nothing.
-use Prim.Native.Nat.{◌-◌}
-use mathlib.Core.Path.{◌≡◌}
-use lib.ListN.{drop}
+-- x is one of the places from `from` on if it is one of those that are left.
+use Rattle.std.proofs.Common.{ℕ, List, ◌≡◌, length, get_or, drop}
 use Rattle.deck.specs.Lists.{has}
-use Rattle.deck.specs.Sheet.{read}
-use Rattle.sheet_causes.specs.Compared.{compared_of}
 use Rattle.sheet_causes.proofs.again.Given as goal
 
 abbrev pub invariant-loop-k : goal.invariant-loop-k
-invariant-loop-k l = has l.x (drop l.from (compared_of l.places (read l.s))) ≡ has l.x (drop l.k (compared_of l.places (read l.s)))
-
-abbrev pub decreases-loop-k : goal.decreases-loop-k
-decreases-loop-k l = l.n - l.k
+invariant-loop-k g l =
+    (p : List ℕ) → l.fn.n ≡ length p → ((k y : ℕ) → goal.F-post g l.fn.place k y → y ≡ get_or p k 0)
+    → has l.fn.x (drop l.fn.from p) ≡ has l.fn.x (drop l.k p)

@@ -1,30 +1,23 @@
--- `sheet_causes::pairs_chained` meets its contract: the chain from the directory's end is the chain from `at` of the pairs that are
-use mathlib.Core.Path.{sym, ◌∙◌}
-use native.Mathlib.Omega.{arith}
+use Rattle.std.proofs.Common.{sym, ◌∙◌, ap, arith}
+use Rattle.deck.specs.Sheet.{count_of, pairs_for}
 use Rattle.sheet_causes.proofs.Chain.{chain_ends, chain_breaks, chain_goes_on}
 use Rattle.sheet_causes.proofs.pairs_chained.Goals as goal
 
-pub returns-then-pair_offset-at : goal.returns-then-pair_offset-at
-returns-then-pair_offset-at c =
-    let l = c in
-    let s = l.args.s.now in
-    sym (l.loop-k.invariant.2
-    ∙ chain_breaks s l.pairs-n.result l.loop-k.k l.loop-k.at (omega arith)
-    c.pair_offset.ensures.value c.if-pair_offset-at.true)
+pub returns-then-pair-end : goal.returns-then-pair-end
+returns-then-pair-end c =
+    let l = c.loop-k in
+    sym (l.invariant.1 ∙ chain_breaks c.args.s.now (pairs_for (count_of c.args.s.now)) l.k l.end (omega arith) (ap (λ r. r.offset) c.pair_at-pair.ensures.value) c.if-pair-end.true)
 
 pub loop-k-preserved : goal.loop-k-preserved
 loop-k-preserved c =
-    let l = c in
-    let s = l.args.s.now in (
+    let l = c.loop-k in (
       omega arith,
-      omega arith,
-      l.loop-k.invariant.2
-          ∙ chain_goes_on s l.pairs-n.result l.loop-k.k l.loop-k.at (omega arith)
-          c.pair_offset.ensures.value c.if-pair_offset-at.false c.pair_size-at.ensures.value,
+      l.invariant.1
+          ∙ chain_goes_on c.args.s.now (pairs_for (count_of c.args.s.now)) l.k l.end (omega arith) (ap (λ r. r.offset) c.pair_at-pair.ensures.value) c.if-pair-end.false
+          (ap (λ r. r.size) c.pair_at-pair.ensures.value),
     )
 
 pub returns : goal.returns
 returns c =
-    let l = c in
-    let s = l.args.s.now in
-    sym (l.loop-k.invariant.2 ∙ chain_ends s l.pairs-n.result l.loop-k.k l.loop-k.at c.loop-k-test.false)
+    let l = c.loop-k in
+    sym (l.invariant.1 ∙ chain_ends c.args.s.now (pairs_for (count_of c.args.s.now)) l.k l.end (omega arith))

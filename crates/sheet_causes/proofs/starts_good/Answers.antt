@@ -1,20 +1,14 @@
--- `sheet_causes::starts_good` meets its contract. Assumes nothing.
-use Prim.Native.Nat.{ℕ}
-use mathlib.Core.Path.{◌≡◌, refl, ◌∙◌, ap}
-use mathlib.Core.List.{List}
-use Rattle.deck.specs.Lists.{all}
-use Rattle.deck.specs.Sheet.{words, read, free, good_starts}
-use Rattle.sheet_causes.proofs.Tests.{passed, failed}
+-- The starts are the words of their stretch.
+use Rattle.std.proofs.Common.{rules}
+use Rattle.deck.specs.Sheet.{read, good_starts}
+use Rattle.sheet_parts.proofs.Words.{length_words}
 use Rattle.sheet_causes.proofs.starts_good.Goals as goal
 
-pub returns-then-not-places_free : goal.returns-then-not-places_free
+pub returns-then-places_free : goal.returns-then-places_free
 unfolding good_starts
-returns-then-not-places_free c =
-    let starts_flag : c.places_free.result ≡ all (free (read c.args.s.now)) (read c.args.s.now).starts = let s = c.args.s.now in c.places_free.ensures ∙ ap (λ (l : List ℕ). all (free (read s)) (words l)) c.stretch.ensures.result_value in
-    rw (failed starts_flag c.if-not-places_free.true-raw) refl
+returns-then-places_free c =
+    let d = c.all_differ.ensures (read c.args.s.now).starts (search (rules, length_words)) (λ k y h. search rules) in search rules
 
-pub returns : goal.returns
+pub returns-else-places_free : goal.returns-else-places_free
 unfolding good_starts
-returns c =
-    let starts_flag : c.places_free.result ≡ all (free (read c.args.s.now)) (read c.args.s.now).starts = let s = c.args.s.now in c.places_free.ensures ∙ ap (λ (l : List ℕ). all (free (read s)) (words l)) c.stretch.ensures.result_value in
-    rw (passed starts_flag c.if-not-places_free.false-raw) c.all_differ.ensures
+returns-else-places_free c = search rules

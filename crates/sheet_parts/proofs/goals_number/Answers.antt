@@ -5,4 +5,4 @@ use Rattle.sheet_parts.proofs.goals_number.Goals as goal
 
 pub returns-clause-value : goal.returns-clause-value
 returns-clause-value c =
-    let p = c.task_part-goals in sym (length_words p.result.now) ∙ ap length p.ensures.result_value_2
+    let p = c.task_part in sym (length_words p.result.now) ∙ ap length p.ensures.result_value_2

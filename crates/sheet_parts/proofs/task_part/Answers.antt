@@ -1,7 +1,7 @@
 -- Of a task the stretch of its pair, else the empty one.
 use Rattle.std.proofs.Common.{refl, arith, ◌≤◌, ◌<◌}
 use Rattle.deck.specs.Sheet.{count_of, words}
-use Rattle.sheet_parts.proofs.Tasks.{task_there, no_task, goals_there, no_goals}
+use Rattle.sheet_parts.proofs.Tasks.{goals_there, no_goals}
 use Rattle.sheet_parts.proofs.task_part.Goals as goal
 
 pub returns-then-k-count-clause-result_value_2 : goal.returns-then-k-count-clause-result_value_2
