@@ -11,13 +11,14 @@ use native.Mathlib.Omega.{arith}
 use lib.Dec.{T, leb, ltb, eqb, leb→le, ltb→lt, eqb→eq}
 use lib.ListN.{length, length-take, length-drop, length-map, get_or-map}
 use Rattle.deck.specs.declared.Stretch.{Stretch}
-use Rattle.deck.specs.Causes.{unless, ◌or_else◌}
+use Rattle.deck.specs.Causes.{unless, ◌or_else◌, answer_unless}
 use Rattle.std.specs.Prelude.{None}
 use Rattle.deck.specs.Lists.{below, within, all, distinct, last}
 use Rattle.deck.specs.Sheet.{area, grid_byte, carrier, task, start_of, last_goal, byte_at, width_of, height_of, count_of, horizon_of, limit_of, part, pair_at, pairs_for, starts_pair, directory_end, grid_stretch, starts_stretch, task_stretch, words, read, free, chained, goals_size, good_header, good_directory, good_grid, good_starts, good_goals, good_last_goals, cause, sheet_cause}
 use Rattle.deck.specs.Calls.{workspace_of, workspace_cause, plan_words, search_cause}
 use Rattle.meaning.proofs.Tests.{Says, says_eqb, says_leb, says_and}
-use Rattle.std.specs.Prelude.{Option, Some}
+use Rattle.std.specs.Prelude.{Option, Some, Ok, Err, ⊤}
+use Rattle.std.proofs.lemmas.Result.{MatchResult-at_ok, MatchResult-at_err}
 use Rattle.std.proofs.lemmas.Option.{none-some}
 use Rattle.deck.specs.declared.cause.Cause.{Cause}
 use Rattle.meaning.proofs.Lists.{length_below}
@@ -178,3 +179,13 @@ search_accepted s work out e =
       leb→le (workspace_of (read s)) work (passes_last (leb (workspace_of (read s)) work) _ c2.0),
       leb→le (plan_words (read s)) out (passes_last (leb (plan_words (read s)) out) _ c2.1),
     )
+
+-- a call that is accepted has no cause, and one that declines has that cause
+module _ {A : Type 0} where
+  pub none_of_ok : (c : Option Cause) (a b : A) → Ok b ≡ answer_unless c a → c ≡ None
+  none_of_ok None a b e = refl
+  none_of_ok (Some c) a b e = absurd (MatchResult-at_ok {E = Cause} (λ _. ⊥) (λ _. ⊤) b (sym e) tt)
+
+  pub cause_of_err : (c : Option Cause) (a : A) (d : Cause) → Err d ≡ answer_unless c a → c ≡ Some d
+  cause_of_err None a d e = absurd (MatchResult-at_err {T = A} (λ _. ⊤) (λ _. ⊥) d (sym e) tt)
+  cause_of_err (Some c) a d e = ap (λ x. Some x) (MatchResult-at_err {T = A} (λ _. ⊤) (λ x. c ≡ x) d (sym e) refl)

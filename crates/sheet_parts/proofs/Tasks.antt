@@ -5,17 +5,13 @@ use mathlib.Core.List.{List, [], map}
 use native.Mathlib.Nat.{zero-add}
 use native.Mathlib.Decide.{dec_le}
 use native.Mathlib.Omega.{arith}
-use lib.Dec.{ltb}
 use lib.ListN.{length, get_or, length-map, get_or-eq_default, get_or-map}
 use borrow.Author.Tests.{lt-ltb, le-ltb}
-use Rattle.deck.specs.declared.cause.Cause.TheVariants.{BadNumber}
-use Rattle.deck.specs.declared.Stretch.{Stretch}
-use Rattle.deck.specs.Causes.{unless, ◌or_else◌}
-use Rattle.std.specs.Prelude.{Option, None, Some}
+use Rattle.std.specs.Prelude.{None, Some}
 use Rattle.deck.specs.declared.cause.Cause.{Cause}
 use Rattle.deck.specs.Lists.{below}
 use Rattle.deck.specs.Sheet.{count_of, task, task_pair, task_stretch, part, words, read, goals_of, sheet_cause}
-use Rattle.deck.specs.Calls.{nowhere, stretch_for, goals_cause, goals_call}
+use Rattle.deck.specs.Calls.{nowhere, goals_cause, goals_call}
 use Rattle.deck.specs.declared.Task.{Task}
 use Rattle.meaning.proofs.Lists.{get_or_tabulate, length_count_from}
 use Rattle.meaning.proofs.Accepted.{accepted_inside}
@@ -50,18 +46,14 @@ module _ (f : List ℕ → ℕ) (s : List ℕ) where
   each_task_at j e = subst (λ (d : ℕ). get_or (map f (read s).tasks) j d ≡ f (goals_of (read s) (task j))) e (get_or-map f (read s).tasks j [])
 
 -- the part that the call for a task's goals hands back
-unchosen : (c d : Option Cause) (r : Stretch) → (c ≡ None → ⊥) → stretch_for (c or_else d) r ≡ nowhere
-unchosen None d r h = absurd (h refl)
-unchosen (Some c) d r h = refl
-
 module _ (s : List ℕ) (j : Task) where
   pub goals_accepted : sheet_cause s ≡ None → goals_call s j ≡ task_part s j
   unfolding goals_call goals_cause
   goals_accepted e = rw e refl
 
-  pub goals_refused : (sheet_cause s ≡ None → ⊥) → goals_call s j ≡ nowhere
+  pub goals_refused : (c : Cause) → sheet_cause s ≡ Some c → goals_call s j ≡ nowhere
   unfolding goals_call goals_cause
-  goals_refused h = unchosen (sheet_cause s) (unless (ltb j.0 (count_of s)) BadNumber) (task_stretch s j) h
+  goals_refused c e = rw e refl
 
   pub part_begins : sheet_cause s ≡ None → (task_part s j).offset ≤ length s
   part_begins ok = go (dec_le (count_of s) j.0)

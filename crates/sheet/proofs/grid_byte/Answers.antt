@@ -4,4 +4,4 @@ use Rattle.sheet.proofs.grid_byte.Goals as goal
 
 pub returns-clause-upper_bound : goal.returns-clause-upper_bound
 returns-clause-upper_bound c =
-    let a = c.args in λ ok. rw c.cell.ensures (grid_byte_lem a.s.now ok a.v)
+    let a = c.args in λ ok. rw c.grid_byte.ensures (grid_byte_lem a.s.now ok a.v)

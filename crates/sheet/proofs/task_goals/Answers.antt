@@ -1,24 +1,25 @@
--- `sheet::task_goals` meets its contract: of an accepted sheet the part of the task, else the empty part. Assumes nothing.
-use mathlib.Core.Path.{◌≡◌, refl, sym, ◌∙◌}
-use Rattle.std.specs.Prelude.{None}
+-- Of an accepted sheet the part of the task, else the empty part.
+use Rattle.std.proofs.Common.{refl, sym, ◌∙◌}
+use native.Mathlib.Nat.{zero-add}
 use Rattle.deck.specs.Sheet.{sheet_cause}
+use Rattle.meaning.proofs.Accepted.{none_of_ok, cause_of_err}
 use Rattle.sheet_parts.proofs.Tasks.{goals_accepted, goals_refused, part_begins}
 use Rattle.sheet.proofs.task_goals.Goals as goal
 
-pub returns-then-cause-eq0-clause-result_value : goal.returns-then-cause-eq0-clause-result_value
-returns-then-cause-eq0-clause-result_value c =
-    let a = c.args in
-    let ok : sheet_cause a.s.now ≡ None = sym c.cause.ensures ∙ c.if-cause-eq0.true in rw (goals_accepted a.s.now a.j ok) (c.task_part.ensures.result_value)
+pub returns-in-Ok-clause-result_value : goal.returns-in-Ok-clause-result_value
+returns-in-Ok-clause-result_value c =
+    let ok = none_of_ok (sheet_cause c.args.s.now) _ _ (sym c.in-Ok.is ∙ c.check.ensures) in
+    rw (goals_accepted c.args.s.now c.args.j ok) (c.task_part.ensures.result_value)
 
-pub returns-then-cause-eq0-clause-begins_at : goal.returns-then-cause-eq0-clause-begins_at
-returns-then-cause-eq0-clause-begins_at c =
-    let a = c.args in
-    let ok : sheet_cause a.s.now ≡ None = sym c.cause.ensures ∙ c.if-cause-eq0.true in rw (goals_accepted a.s.now a.j ok) (c.task_part.ensures.begins_at (part_begins a.s.now a.j ok))
+pub returns-in-Ok-clause-begins_at : goal.returns-in-Ok-clause-begins_at
+returns-in-Ok-clause-begins_at c =
+    let ok = none_of_ok (sheet_cause c.args.s.now) _ _ (sym c.in-Ok.is ∙ c.check.ensures) in
+    rw (goals_accepted c.args.s.now c.args.j ok) (c.task_part.ensures.begins_at (part_begins c.args.s.now c.args.j ok))
 
-pub returns-else-cause-eq0-clause-result_value : goal.returns-else-cause-eq0-clause-result_value
-returns-else-cause-eq0-clause-result_value c =
-    let a = c.args in rw (goals_refused a.s.now a.j (λ e. c.if-cause-eq0.false (c.cause.ensures ∙ e))) (refl)
+pub returns-in-Err-clause-result_value : goal.returns-in-Err-clause-result_value
+returns-in-Err-clause-result_value c =
+    rw (goals_refused c.args.s.now c.args.j _ (cause_of_err (sheet_cause c.args.s.now) _ _ (sym c.in-Err.is ∙ c.check.ensures))) refl
 
-pub returns-else-cause-eq0-clause-begins_at : goal.returns-else-cause-eq0-clause-begins_at
-returns-else-cause-eq0-clause-begins_at c =
-    let a = c.args in rw (goals_refused a.s.now a.j (λ e. c.if-cause-eq0.false (c.cause.ensures ∙ e))) (refl)
+pub returns-in-Err-clause-begins_at : goal.returns-in-Err-clause-begins_at
+returns-in-Err-clause-begins_at c =
+    rw (goals_refused c.args.s.now c.args.j _ (cause_of_err (sheet_cause c.args.s.now) _ _ (sym c.in-Err.is ∙ c.check.ensures)), zero-add c.args.s.ref_ptr.1) refl
