@@ -13,7 +13,7 @@ use Rattle.deck.specs.Paths.{least_path}
 use Rattle.deck.specs.Calls.{constraints_of, workspace_for, path_found, path_written, overwrite}
 use Rattle.deck.specs.declared.Carrier.{Carrier}
 use Rattle.deck.specs.declared.Task.{Task}
-use Rattle.deck.specs.declared.PathAnswer.TheVariants.{Found, NoPath}
+use Rattle.std.specs.Prelude.{None, Some}
 use Rattle.kernel.specs.Labels.{all_goals}
 use Rattle.kernel.specs.Parts.{stay_from, rest_from}
 use Rattle.kernel.specs.Kernel.{fore, hind, path_at, meets_at, LeastTime, NoEarlier}
@@ -59,7 +59,7 @@ module _ (s : List ℕ) (i : Carrier) (j : Task) (mask rs : List ℕ) (r : Ready
 
   module _ (end : ℕ) (t : LeastTime d i j (constraints_of rs) end) where
     -- no path
-    pub answers_none : d.horizon < end → (out : List ℕ) → (NoPath ≡ path_found d j (least_path d i j (constraints_of rs))) × (out ≡ path_written (least_path d i j (constraints_of rs)) out)
+    pub answers_none : d.horizon < end → (out : List ℕ) → (None ≡ path_found d j (least_path d i j (constraints_of rs))) × (out ≡ path_written (least_path d i j (constraints_of rs)) out)
     unfolding path_found path_written
     answers_none l out =
         let e = no_time_none d i j (constraints_of rs) (begins_free r) (ends_free r) (in_time r) end t l in
@@ -67,7 +67,7 @@ module _ (s : List ℕ) (i : Carrier) (j : Task) (mask rs : List ℕ) (r : Ready
 
     -- the path that is traced
     pub answers_found : end ≤ d.horizon → (out after : List ℕ) → after ≡ overwrite (path_at d i j (constraints_of rs) (d.horizon - end) end) out
-        → (Found end ≡ path_found d j (least_path d i j (constraints_of rs))) × (after ≡ path_written (least_path d i j (constraints_of rs)) out)
+        → (Some end ≡ path_found d j (least_path d i j (constraints_of rs))) × (after ≡ path_written (least_path d i j (constraints_of rs)) out)
     unfolding path_found path_written
     answers_found l out after f =
         let e = time_path d i j (constraints_of rs) (begins_free r) (ends_free r) (in_time r) end t l in

@@ -9,7 +9,7 @@ ghost use Rattle.kernel.specs.Kernel.{LeastTime, NoEarlier};
 ghost use Rattle.bars.specs.Bars.{Chained};
 ghost use Rattle.passes.specs.Ready.{Ready, Goals, Turned, Early, room_for, Backed};
 
-use deck::{Carrier, PathAnswer, Task};
+use deck::{Carrier, Task};
 
 // Where a bound is known, the backward pass from it is tried first: a child's path mostly finishes when its parent's does.
 fn guess(
@@ -76,7 +76,7 @@ pub fn least(
     work: &mut [u32],
     out: &mut [u16],
     records: &[u16],
-) -> PathAnswer
+) -> Option<usize>
     requires { Ready s.now i j mask.now records.now × NoEarlier (read s.now) i j (constraints_of records.now) bound × (room_for s.now records.now ≤ length work.old) × (suc (read s.now).horizon ≤ length out.old) }
     ensures { (result ≡ path_found (read s.now) j (least_path (read s.now) i j (constraints_of records.now))) × (out.new ≡ path_written (least_path (read s.now) i j (constraints_of records.now)) out.old) }
 {
@@ -90,8 +90,8 @@ pub fn least(
         s, i, j, mask, &goals, &turned, records, &heads, bound, from, work,
     );
     if sheet::horizon(s) < end {
-        return PathAnswer::NoPath;
+        return None;
     }
     trace::trace(s, i, j, mask, &goals, records, &heads, work, end, out);
-    PathAnswer::Found(end)
+    Some(end)
 }

@@ -19,8 +19,6 @@ use Rattle.deck.specs.Planner.{problem, bound_by}
 use Rattle.deck.specs.Calls.{constraints_of, workspace_for, path_found, path_written}
 use Rattle.deck.specs.declared.Carrier.{Carrier}
 use Rattle.deck.specs.declared.Task.{Task}
-use Rattle.deck.specs.declared.PathAnswer.{PathAnswer}
-use Rattle.deck.specs.declared.PathAnswer.TheVariants.{Found}
 use Rattle.deck.specs.declared.Constraint.{Constraint}
 use Rattle.meaning.proofs.Lists.{mem_select}
 use Rattle.meaning.specs.Making.{added, add_if, make_with, make_child}
@@ -166,7 +164,7 @@ module _ {s mask work bounds : List ℕ} {made latest n : ℕ} {i : Carrier} {c 
         ∙ sym (least_bound d i j (c ∷ constraints_at work n))
         ∙ rw (task_is, x.bound)
 
-    pub child_found : (r : PathAnswer) → r ≡ path_found d j (least_path d i j (constraints_of rs)) → r ≡ path_found d (child_task d work n c) (child_path d work n c)
+    pub child_found : (r : Option ℕ) → r ≡ path_found d j (least_path d i j (constraints_of rs)) → r ≡ path_found d (child_task d work n c) (child_path d work n c)
     child_found r q = q ∙ ap₂ (path_found d) task_is child_least
 
     pub child_written : (out after : List ℕ) → after ≡ path_written (least_path d i j (constraints_of rs)) out → after ≡ path_written (child_path d work n c) out
@@ -182,23 +180,23 @@ module _ {s mask work bounds : List ℕ} {made latest n : ℕ} {i : Carrier} {c 
         rw (be ∙ finish_read d work n d.limit made fits stored x.below record_room i.0 carrier_in, ← x.bound, task_is) later
 
 -- WHAT THE ANSWER SAYS of the path
-none_found : (d : Sheet) (j : Task) (o : Option (List ℕ)) (r : PathAnswer) → r ≡ path_found d j o → ((f : ℕ) → r ≡ Found f → ⊥) → o ≡ None
+none_found : (d : Sheet) (j : Task) (o : Option (List ℕ)) (r : Option ℕ) → r ≡ path_found d j o → ((f : ℕ) → r ≡ Some f → ⊥) → o ≡ None
 unfolding path_found
 none_found d j None r e k = refl
 none_found d j (Some p) r e k = absurd (k (finish_of d j p) e)
 
-one_found : (d : Sheet) (j : Task) (o : Option (List ℕ)) (r : PathAnswer) (f : ℕ) → r ≡ path_found d j o → r ≡ Found f → (p : List ℕ) × (o ≡ Some p) × (f ≡ finish_of d j p)
+one_found : (d : Sheet) (j : Task) (o : Option (List ℕ)) (r : Option ℕ) (f : ℕ) → r ≡ path_found d j o → r ≡ Some f → (p : List ℕ) × (o ≡ Some p) × (f ≡ finish_of d j p)
 unfolding path_found
 one_found d j None r f e g = absurd (let z : ◌≡◌ {A = ℕ} 0 1 = cc in omega arith)
 one_found d j (Some p) r f e g = (p, refl, cc)
 
 -- THE CHILD, once its path is looked for
 module _ {s mask work bounds : List ℕ} {made latest n : ℕ} {i : Carrier} {c : Constraint} (x : Branch s mask work bounds made latest n i c) (after : List ℕ) (front : Front (read s).limit work after) where
-  module _ (r : PathAnswer) (e : r ≡ path_found (read s) (child_task (read s) work n c) (child_path (read s) work n c)) where
-    pub no_path_lem : ((f : ℕ) → r ≡ Found f → ⊥) → child_path (read s) work n c ≡ None
+  module _ (r : Option ℕ) (e : r ≡ path_found (read s) (child_task (read s) work n c) (child_path (read s) work n c)) where
+    pub no_path_lem : ((f : ℕ) → r ≡ Some f → ⊥) → child_path (read s) work n c ≡ None
     no_path_lem k = none_found (read s) (child_task (read s) work n c) (child_path (read s) work n c) r e k
 
-    pub a_path : (f : ℕ) → r ≡ Found f → (p : List ℕ) × (child_path (read s) work n c ≡ Some p) × (f ≡ finish_of (read s) (child_task (read s) work n c) p)
+    pub a_path : (f : ℕ) → r ≡ Some f → (p : List ℕ) × (child_path (read s) work n c ≡ Some p) × (f ≡ finish_of (read s) (child_task (read s) work n c) p)
     a_path f g = one_found (read s) (child_task (read s) work n c) (child_path (read s) work n c) r f e g
 
   few : (read s).limit ≤ 4096

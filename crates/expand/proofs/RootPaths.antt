@@ -18,8 +18,6 @@ use Rattle.deck.specs.Planner.{problem}
 use Rattle.deck.specs.declared.Carrier.{Carrier}
 use Rattle.deck.specs.declared.Task.{Task}
 use Rattle.deck.specs.declared.Constraint.{Constraint}
-use Rattle.deck.specs.declared.PathAnswer.{PathAnswer}
-use Rattle.deck.specs.declared.PathAnswer.TheVariants.{Found}
 use Rattle.meaning.proofs.Assignments.{table_at}
 use Rattle.meaning.specs.Making.{added}
 use Rattle.meaning.proofs.LeastPath.{LeastMeant, least_path_meant}
@@ -186,14 +184,14 @@ module _ {s mask table work bounds : List ℕ} {n : ℕ} (i : Carrier) {a : List
     least_is = rw (none_bound, is_task) has_path.1
 
     -- the least path's call finds it
-    module _ {r : PathAnswer} (answer : r ≡ path_found d k (least_path d i k (constraints_of []))) where
-      pub root_found : r ≡ Found (finish_of d j p)
+    module _ {r : Option ℕ} (answer : r ≡ path_found d k (least_path d i k (constraints_of []))) where
+      pub root_found : r ≡ Some (finish_of d j p)
       unfolding path_found
-      root_found = answer ∙ ap (path_found d k) least_is ∙ ap (λ (t : Task). Found (finish_of d t p)) is_task
+      root_found = answer ∙ ap (path_found d k) least_is ∙ ap (λ (t : Task). Some (finish_of d t p)) is_task
 
-      module _ {f : ℕ} (is : r ≡ Found f) where
+      module _ {f : ℕ} (is : r ≡ Some f) where
         finish_is : f ≡ finish_of d j p
-        finish_is = let z : Found f ≡ Found (finish_of d j p) = sym is ∙ root_found in cc
+        finish_is = let z : Some f ≡ Some (finish_of d j p) = sym is ∙ root_found in cc
 
         pub finish_small : f < 4294967296
         finish_small = omega (arith, finish_is, finish_low p has_path.1)
@@ -211,7 +209,7 @@ module _ {s mask table work bounds : List ℕ} {n : ℕ} (i : Carrier) {a : List
       path_long = rw (path_is, long, el)
 
     -- and it is put into the record
-    module _ {r : PathAnswer} (answer : r ≡ path_found d k (least_path d i k (constraints_of []))) {f : ℕ} (is : r ≡ Found f)
+    module _ {r : Option ℕ} (answer : r ≡ path_found d k (least_path d i k (constraints_of []))) {f : ℕ} (is : r ≡ Some f)
         {out : List ℕ} (before : List ℕ) (written : out ≡ path_written (least_path d i k (constraints_of [])) before) (mid : List ℕ) (front : Front d.limit work mid) (size : length mid ≡ length work)
         {w last : ℕ} (ew : w ≡ d.width) (el : last ≡ d.horizon) {after : List ℕ}
         (u : Wrote mid after n (with_path (fields_at mid n) i.0 f (pack_of w last (take (last + 1) out)))) where

@@ -17,7 +17,7 @@ ghost use Rattle.expand.specs.Children.{Branch, child_task, child_path};
 ghost use Rattle.scratch.specs.Front.{Front};
 ghost use Rattle.expand.specs.Held.{Given, Held, Holding, Begun, Same, Grew, NodeAt, Nodes};
 
-use deck::{Carrier, PathAnswer};
+use deck::Carrier;
 use nodes::Child;
 use roots::Choice;
 
@@ -58,7 +58,7 @@ fn root_path(
     let bound = wide(tables::entry(t, i, j));
     let mut path = [0u16; 256];
     let none = [0u16; 1];
-    let PathAnswer::Found(finish) = scratch::least(
+    let Some(finish) = scratch::least(
         s,
         i,
         j,
@@ -156,7 +156,7 @@ fn child_path(
     child: Child,
     out: &mut [u16],
     bounds: &[u8],
-) -> PathAnswer
+) -> Option<usize>
     requires by_index { (made : ℕ) × (latest : ℕ) × Branch s.now mask.now work.old bounds.now made latest n child.carrier child.constraint }
     requires list_len { (length list.old ≡ 20480) × (suc (read s.now).horizon ≤ length out.old) }
     ensures answer { result ≡ path_found (read s.now) (child_task (read s.now) work.old n child.constraint) (child_path (read s.now) work.old n child.constraint) }
@@ -202,7 +202,7 @@ fn make_child(
     let last = sheet::horizon(s);
     let limit = sheet::limit(s);
     let mut path = [0u16; 256];
-    let PathAnswer::Found(finish) = child_path(
+    let Some(finish) = child_path(
         s, mask, work, spare, list, n, child, &mut path, bounds,
     ) else {
         return Grown::Made { made, latest }; // A child without a path is not made.

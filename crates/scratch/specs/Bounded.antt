@@ -6,7 +6,7 @@ use Rattle.deck.specs.Calls.{path_found, path_written}
 use Rattle.deck.specs.declared.Carrier.{Carrier}
 use Rattle.deck.specs.declared.Task.{Task}
 use Rattle.deck.specs.declared.Constraint.{Constraint}
-use Rattle.deck.specs.declared.PathAnswer.TheVariants.{Found as PathFound}
+use Rattle.std.specs.Prelude.{Some}
 use Rattle.kernel.specs.Kernel.{NoEarlier}
 use Rattle.bounds.specs.Low.{Low}
 use Rattle.scratch.specs.declared.Sought.{Sought}
@@ -19,5 +19,5 @@ pub record Bounded (d : Sheet) (bounds : List ℕ) : Type 0 where
 
 -- the least path is found, with its finish, and written; or none finishes before a time, and nothing is written
 abbrev pub SoughtFor : Sheet → Carrier → Task → List Constraint → List ℕ → List ℕ → Sought → Type 0
-SoughtFor d i j cs before after (Found t) = (PathFound t ≡ path_found d j (least_path d i j cs)) × (after ≡ path_written (least_path d i j cs) before)
+SoughtFor d i j cs before after (Found t) = (Some t ≡ path_found d j (least_path d i j cs)) × (after ≡ path_written (least_path d i j cs) before)
 SoughtFor d i j cs before after (After t) = NoEarlier d i j cs t × (after ≡ before)

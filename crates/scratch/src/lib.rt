@@ -10,7 +10,7 @@ ghost use Rattle.passes.specs.Ready.{Ready};
 ghost use Rattle.scratch.specs.Front.{Front};
 ghost use Rattle.scratch.specs.Bounded.{Bounded, SoughtFor};
 
-use deck::{Carrier, PathAnswer, Task};
+use deck::{Carrier, Task};
 use first_walk::Tried;
 
 // What the walk says of the least path: found, with its finish; or none finishes before a time.
@@ -38,7 +38,7 @@ fn by_passes(
     spare: &mut [u32; 8192],
     out: &mut [u16],
     records: &[u16],
-) -> PathAnswer
+) -> Option<usize>
     requires { Ready s.now i j mask.now records.now × NoEarlier (read s.now) i j (constraints_of records.now) bound × (workspace_for (read s.now) ≤ length work.old) × (suc (read s.now).horizon ≤ length out.old) }
     ensures answer { result ≡ path_found (read s.now) j (least_path (read s.now) i j (constraints_of records.now)) }
     ensures written { out.new ≡ path_written (least_path (read s.now) i j (constraints_of records.now)) out.old }
@@ -112,14 +112,14 @@ pub fn least(
     out: &mut [u16],
     records: &[u16],
     bounds: &[u8],
-) -> PathAnswer
+) -> Option<usize>
     requires { Ready s.now i j mask.now records.now × NoEarlier (read s.now) i j (constraints_of records.now) bound × (workspace_for (read s.now) ≤ length work.old) × (suc (read s.now).horizon ≤ length out.old) × Bounded (read s.now) bounds.now }
     ensures answer { result ≡ path_found (read s.now) j (least_path (read s.now) i j (constraints_of records.now)) }
     ensures written { out.new ≡ path_written (least_path (read s.now) i j (constraints_of records.now)) out.old }
     ensures front { Front (read s.now).limit work.old work.new }
 {
     match by_walk(s, i, j, mask, bound, spare, out, records, bounds) {
-        Sought::Found(finish) => PathAnswer::Found(finish),
+        Sought::Found(finish) => Some(finish),
         Sought::After(t) => by_passes(s, i, j, mask, t, work, spare, out, records),
     }
 }

@@ -10,7 +10,7 @@ returns-in_default c =
     let x = c.requires.0 in
     let path = c.child_path in
     record {
-      grew = not_made x _ path.ensures.front (no_path_lem x _ path.ensures.front path.result path.ensures.answer c.in_default.not-Found);
+      grew = not_made x _ path.ensures.front (no_path_lem x _ path.ensures.front path.result path.ensures.answer c.in_default.not-Some);
       same = path_same x _ path.ensures.front;
     }
 
@@ -18,7 +18,7 @@ pub returns-then-made-limit : goal.returns-then-made-limit
 returns-then-made-limit c =
     let x = c.requires.0 in
     let path = c.child_path in
-    let found = a_path x _ path.ensures.front path.result path.ensures.answer _ c.in-Found.is in
+    let found = a_path x _ path.ensures.front path.result path.ensures.answer _ c.in-Some.is in
     record {
       grew = none_left x _ path.ensures.front found.0 found.1 (omega (arith, c.limit-limit.ensures.value));
       same = path_same x _ path.ensures.front;
@@ -29,7 +29,7 @@ make_child-requires c =
     let path = c.child_path in
     let word = c.limit-limit in
     let x = c.requires.0 in
-    let found = a_path x _ path.ensures.front path.result path.ensures.answer _ c.in-Found.is in
+    let found = a_path x _ path.ensures.front path.result path.ensures.answer _ c.in-Some.is in
     record {
       n_lt_made = (
         x.below,
@@ -51,7 +51,7 @@ returns c =
     let x = c.requires.0 in
     let path = c.child_path in
     let word = c.limit-limit in
-    let found = a_path x _ path.ensures.front path.result path.ensures.answer _ c.in-Found.is in
+    let found = a_path x _ path.ensures.front path.result path.ensures.answer _ c.in-Some.is in
     let front = path.ensures.front in
     let new = new_child x _ front found.0 found.1 _ _ _ _ _ _ _ word.ensures.value c.width-w.ensures.value c.horizon-last.ensures.value found.2 path.ensures.written c.make_child.ensures in
     record {

@@ -40,7 +40,7 @@ pub returns-in_default : goal.returns-in_default
 returns-in_default c =
     let u = c.args in
     let q = c.requires in
-    absurd (c.in_default.not-Found _ (root_found u.i q.given.0 q.given.1 q.by_index.2 c.task_of-j.ensures c.least.ensures.answer))
+    absurd (c.in_default.not-Some _ (root_found u.i q.given.0 q.given.1 q.by_index.2 c.task_of-j.ensures c.least.ensures.answer))
 
 pub put_path-requires : goal.put_path-requires
 put_path-requires c =
@@ -51,7 +51,7 @@ put_path-requires c =
       omega (arith, room_record q.given.0 u.n q.by_index.2.within, l.auto.work),
       omega (arith, q.given.1, count_range u.s.now q.given.0.accepted),
       finish_small u.i q.given.0 q.given.1 q.by_index.2 j.ensures l.ensures.answer
-          c.in-Found.is,
+          c.in-Some.is,
       sym (path_long u.i q.given.0 q.given.1 q.by_index.2 j.ensures (replicate 256 0) l.ensures.written
           c.horizon-last.ensures.value),
       omega (arith, c.width-w.ensures.value, width_range u.s.now q.given.0.accepted),
@@ -63,7 +63,7 @@ returns-clause-begun c =
     let q = c.requires in
     let j = c.task_of-j in
     let l = c.least in
-    λ a st k. root_path_begun u.i q.given.0 q.given.1 k j.ensures l.ensures.answer c.in-Found.is
+    λ a st k. root_path_begun u.i q.given.0 q.given.1 k j.ensures l.ensures.answer c.in-Some.is
     (replicate 256 0) l.ensures.written l.new.work l.ensures.front l.auto.work
     c.width-w.ensures.value c.horizon-last.ensures.value c.put_path.ensures
 
@@ -73,6 +73,6 @@ returns-clause-same c =
     let q = c.requires in
     let j = c.task_of-j in
     let l = c.least in
-    root_path_same u.i q.given.0 q.given.1 q.by_index.2 j.ensures l.ensures.answer c.in-Found.is
+    root_path_same u.i q.given.0 q.given.1 q.by_index.2 j.ensures l.ensures.answer c.in-Some.is
     (replicate 256 0) l.ensures.written l.new.work l.ensures.front l.auto.work
     c.width-w.ensures.value c.horizon-last.ensures.value c.put_path.ensures
