@@ -1,13 +1,6 @@
 -- The bounds of a label in the table, out of a layer that passed the test; and the table, filled label by label. Assumes nothing.
-use Prim.Native.Nat.{ℕ, suc, ◌+◌, ◌-◌, ◌*◌, ◌≤◌, ◌<◌}
-use mathlib.Core.Path.{◌≡◌, sym, ap, ◌∙◌, subst}
-use mathlib.Core.Logic.{◌⊎◌, inl, inr}
-use mathlib.Core.List.{List}
-use native.Mathlib.Nat.{eq-or-lt_of_le}
-use native.Mathlib.Omega.{arith}
-use lib.ListN.{length, get_or}
-use lib.Dec.{T}
-use Rattle.deck.specs.Sheet.{Sheet, read, area, free, goals_of, last_goal}
+use Rattle.std.proofs.Common.{ℕ, suc, ◌+◌, ◌-◌, ◌*◌, ◌≤◌, ◌<◌, ◌≡◌, sym, ap, ◌∙◌, subst, ◌⊎◌, inl, inr, List, eq-or-lt_of_le, arith, length, get_or, T, None}
+use Rattle.deck.specs.Sheet.{Sheet, cause, width_of, height_of, read, area, free, goals_of, last_goal}
 use Rattle.deck.specs.declared.Task.{Task}
 use Rattle.meaning.proofs.Paths.{free_meant}
 use Rattle.sheet.proofs.Accepted.{width_range, height_range, area_range, goals_range, goal_on_grid, last_of}
@@ -111,6 +104,10 @@ module _ (d : Sheet) (j : Task) (small : area d ≤ 1024) where
           (omega (arith, l.goal, l.beyond (1024 * suc k + get_or gs k 0) (omega arith)))
       enters m c (inr i) = omega (arith, l.beyond (1024 * m + get_or gs m 0) (omega arith), l.beyond (1024 * suc m + get_or gs m 0) (omega arith), g.enters m i c)
 
+-- the sides of the grid
+pub sides : (s : List ℕ) → cause s ≡ None → {w h : ℕ} → w ≡ width_of s → h ≡ height_of s → (1 ≤ w) × (w ≤ 32) × (1 ≤ h) × (h ≤ 32)
+sides s a ew eh = rw (ew, eh) ((width_range s a).0, (width_range s a).1, (height_range s a).0, (height_range s a).1)
+
 module _ (s : List ℕ) (j : Task) (mask : List ℕ) (g : Given s j mask) where
   abbrev d : Sheet
   d = read s
@@ -118,17 +115,11 @@ module _ (s : List ℕ) (j : Task) (mask : List ℕ) (g : Given s j mask) where
   abbrev K : ℕ
   K = length (goals_of d j)
 
-  pub few : (1 ≤ K) × (K ≤ 8)
+  few : (1 ≤ K) × (K ≤ 8)
   few = goals_range s g.accepted j.0 g.task_in
 
   -- what the code asks
   module _ {w h : ℕ} (ew : w ≡ d.width) (eh : h ≡ d.height) where
-    pub sides : (1 ≤ w) × (w ≤ 32) × (1 ≤ h) × (h ≤ 32)
-    sides = rw (ew, eh) ((width_range s g.accepted).0, (width_range s g.accepted).1, (height_range s g.accepted).0, (height_range s g.accepted).1)
-
-    pub room : (k n : ℕ) → k ≤ 8 → n ≡ 9216 → 1024 * k + w * h ≤ n
-    room k n l e = omega (arith, size_small w h sides.1 sides.3)
-
     module _ (goals : List ℕ) (G : Goals s j goals) where
       pub goal_small : (k : ℕ) → k < K → get_or goals k 0 < 1156
       goal_small k l =

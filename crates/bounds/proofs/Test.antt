@@ -1,96 +1,65 @@
 -- The test of a layer, place by place. Assumes nothing.
-use Prim.Native.Nat.{ℕ, suc, ◌+◌, ◌-◌, ◌*◌, ◌/◌, ◌%◌, ◌≤◌, ◌<◌, max, min}
-use mathlib.Core.Path.{◌≡◌, refl, ap, ap₂, ◌∙◌, subst}
-use mathlib.Core.Logic.{◌⊎◌, inl, inr, ⊎_elim}
-use mathlib.Core.Bool.{cond}
-use mathlib.Core.List.{List}
-use native.Mathlib.Nat.{eq-or-lt_of_le, mul-add, mul-le-mul}
-use native.Mathlib.Omega.{arith}
-use lib.ListN.{get_or, replicate, length-replicate, get_or-replicate, get_or-eq_default}
-use lib.Dec.{T, eqb}
-use Rattle.meaning.proofs.Tests.{is_true}
+use Rattle.std.proofs.Common.{ℕ, suc, ◌+◌, ◌-◌, ◌≤◌, ◌<◌, max, min, ◌≡◌, refl, sym, subst, ◌⊎◌, inl, inr, ⊎_elim, List, eq-or-lt_of_le, arith, get_or, replicate, T}
+use lib.ListN.{length-replicate, get_or-replicate, get_or-eq_default}
 use Rattle.kernel.proofs.Choice.{lt_or_ge}
 use Rattle.bars.specs.Ways.{move_by, way_back, opens_by}
 use Rattle.bars.proofs.Gates.{each_way}
-use Rattle.bounds.specs.Graded.{Even, Layer}
+use native.Mathlib.Decide.{ℕ_discrete}
+use Rattle.bounds.specs.Graded.{Even, EvenBy, Layer}
 
--- no number f q of a stretch that begins at lo and ends before p is greater than `worst`
-abbrev pub Below : (ℕ → ℕ) → ℕ → ℕ → ℕ → Type 0
-Below f lo p worst = (q : ℕ) → lo ≤ q → q < p → f q ≤ worst
+module _ (counts : ℕ → ℕ → ℕ → ℕ → Type 0) (x mask : List ℕ) (wide : ℕ) where
+  -- what counts of the number of the place q, around p by the way y, is too great by no more than `worst` for a free place p
+  abbrev Spot : ℕ → ℕ → ℕ → ℕ → Type 0
+  Spot p worst q y = ¬ (y ≡ 2) → (r : ℕ) × counts (get_or x q 0) (get_or mask q 0) (way_back y) r × (min (r - suc (get_or x p 0)) (get_or mask p 0) ≤ worst)
 
-module _ (f : ℕ → ℕ) (lo : ℕ) where
-  pub below_none : (worst : ℕ) → Below f lo lo worst
-  below_none worst q a b = absurd (omega arith)
+  -- so of each place around p
+  abbrev pub Around : ℕ → ℕ → Type 0
+  Around p worst = (y : ℕ) → y < 5 → Spot p worst (move_by wide p y) y
 
-  pub below_more : (p worst next : ℕ) → next ≡ max worst (f p) → Below f lo p worst → Below f lo (p + 1) next
-  below_more p worst next e h q a b = go (eq-or-lt_of_le b)
+  -- for each p of a stretch that begins at `wide` and ends before `end`
+  pub record Passed (end worst : ℕ) : Type 0 where
+    pub at : (p : ℕ) → wide ≤ p → p < end → Around p worst
+
+  -- the four places around p, with what the code finds there
+  around : (p a b c e worst : ℕ) → 1 ≤ wide → wide ≤ p → counts (get_or x (p - wide) 0) (get_or mask (p - wide) 0) 4 a → counts (get_or x (p - 1) 0) (get_or mask (p - 1) 0) 3 b
+      → counts (get_or x (p + 1) 0) (get_or mask (p + 1) 0) 1 c → counts (get_or x (p + wide) 0) (get_or mask (p + wide) 0) 0 e
+      → min (max (max a b) (max c e) - get_or x p 0 - 1) (get_or mask p 0) ≤ worst → Around p worst
+  around p a b c e worst z l ka kb kc ke h =
+      each_way (λ (y : ℕ). Spot p worst (move_by wide p y) y)
+      (at 0 (p - wide) (omega arith) (λ _. (a, ka, omega arith)))
+      (at 1 (p - 1) (omega arith) (λ _. (b, kb, omega arith)))
+      (λ n. absurd (n refl))
+      (at 3 (p + 1) (omega arith) (λ _. (c, kc, omega arith)))
+      (at 4 (p + wide) (omega arith) (λ _. (e, ke, omega arith)))
     where
-      go : (suc q ≡ p + 1) ⊎ (suc q < p + 1) → f q ≤ next
-      go (inl i) = let k : q ≡ p = omega arith in rw k (omega arith)
-      go (inr l) = omega (arith, h q a (omega arith))
+      at : (y q : ℕ) → q ≡ move_by wide p y → Spot p worst q y → Spot p worst (move_by wide p y) y
+      at y q e k = subst (λ (i : ℕ). Spot p worst i y) e k
 
--- the greatest number around a padded place: above, left, right, below
-abbrev pub most_around : List ℕ → ℕ → ℕ → ℕ
-most_around x wide p = max (max (get_or x (p - wide) 0) (get_or x (p - 1) 0)) (max (get_or x (p + 1) 0) (get_or x (p + wide) 0))
-
--- the number of a padded place that may be left by the way of the bit, else 0
-abbrev pub if_left : List ℕ → List ℕ → ℕ → ℕ → ℕ
-if_left x mask bit q = cond (eqb (get_or mask q 0 / bit % 2) 1) (get_or x q 0) 0
-
--- the greatest number of a place around that may be left to the padded place
-abbrev pub most_into : List ℕ → List ℕ → ℕ → ℕ → ℕ
-most_into x mask wide p = max (max (if_left x mask 16 (p - wide)) (if_left x mask 8 (p - 1))) (max (if_left x mask 2 (p + 1)) (if_left x mask 1 (p + wide)))
-
--- by how much such a number is too great for a free place
-abbrev pub over_at : (ℕ → ℕ) → List ℕ → List ℕ → ℕ → ℕ
-over_at most x mask p = min (most p - suc (get_or x p 0)) (get_or mask p 0)
-
--- what the code finds there
-pub into_over : (x mask : List ℕ) (wide p : ℕ) {a b c e r : ℕ} → a ≡ if_left x mask 16 (p - wide) → b ≡ if_left x mask 8 (p - 1) → c ≡ if_left x mask 2 (p + 1)
-    → e ≡ if_left x mask 1 (p + wide) → r ≡ min (max (max a b) (max c e) - suc (get_or x p 0)) (get_or mask p 0) → r ≡ over_at (most_into x mask wide) x mask p
-into_over x mask wide p ea eb ec ee h = h ∙ ap (λ (n : ℕ). min (n - suc (get_or x p 0)) (get_or mask p 0)) (ap₂ max (ap₂ max ea eb) (ap₂ max ec ee))
-
-none_over : (a b m : ℕ) → min (a - b) m ≤ 0 → 0 < m → a ≤ b
-none_over a b m h l = omega arith
-
-module _ (x mask : List ℕ) (wide : ℕ) (z : 1 ≤ wide) where
-  -- no number that the test asks about is above `most`, or above that of the place itself, where one waits
-  abbrev Covers : (ℕ → ℕ) → Type 0
-  Covers most = (p y : ℕ) → wide ≤ p → y < 5 → T (opens_by (get_or mask (move_by wide p y) 0) (way_back y)) → get_or x (move_by wide p y) 0 ≤ max (most p) (get_or x p 0)
-
-  even_of : (most : ℕ → ℕ) → Covers most → {p end worst : ℕ} → p ≡ end → worst ≡ 0 → Below (over_at most x mask) wide p worst → Even x mask wide end
-  even_of most covers {p} {end} {worst} e none h q y a b f l o =
-      omega (arith, covers q y a l o, none_over (most q) (suc (get_or x q 0)) (get_or mask q 0) (subst (λ (n : ℕ). over_at most x mask q ≤ n) none (h q a (omega arith))) f)
-
-  -- the places by the five ways, each by itself
-  each_spot : (p : ℕ) → wide ≤ p → (ok : ℕ → ℕ → Type 0) → ok (p - wide) 0 → ok (p - 1) 1 → ok p 2 → ok (p + 1) 3 → ok (p + wide) 4 → (y : ℕ) → y < 5 → ok (move_by wide p y) y
-  each_spot p a ok b c d e f =
-      each_way (λ (y : ℕ). ok (move_by wide p y) y) (at 0 (p - wide) (omega arith) b) (at 1 (p - 1) (omega arith) c) (at 2 p (omega arith) d)
-      (at 3 (p + 1) (omega arith) e) (at 4 (p + wide) (omega arith) f)
+  -- one place more
+  pub passed_more : (p worst a b c e next : ℕ) → Passed p worst → 1 ≤ wide → wide ≤ p → counts (get_or x (p - wide) 0) (get_or mask (p - wide) 0) 4 a
+      → counts (get_or x (p - 1) 0) (get_or mask (p - 1) 0) 3 b → counts (get_or x (p + 1) 0) (get_or mask (p + 1) 0) 1 c
+      → counts (get_or x (p + wide) 0) (get_or mask (p + wide) 0) 0 e → next ≡ max worst (min (max (max a b) (max c e) - get_or x p 0 - 1) (get_or mask p 0)) → Passed (p + 1) next
+  passed_more p worst a b c e next h z l ka kb kc ke n = record { at = λ q i k. go q i (eq-or-lt_of_le k) }
     where
-      at : (y q : ℕ) → q ≡ move_by wide p y → ok q y → ok (move_by wide p y) y
-      at y q e k = subst (λ (i : ℕ). ok i y) e k
+      go : (q : ℕ) → wide ≤ q → (suc q ≡ p + 1) ⊎ (suc q < p + 1) → Around q next
+      go q i (inl k) = let o : q ≡ p = omega arith in subst (λ (v : ℕ). Around v next) (sym o) (around p a b c e next z l ka kb kc ke (omega arith))
+      go q i (inr k) = λ y f t. let r = h.at q i (omega arith) y f t in (r.0, r.1, omega (arith, r.2))
 
-  around_covers : Covers (most_around x wide)
-  around_covers p y a l o =
-      each_spot p a (λ q _. get_or x q 0 ≤ max (most_around x wide p) (get_or x p 0)) (omega arith) (omega arith) (omega arith) (omega arith) (omega arith) y l
+-- none of the numbers is too great
+pub none_over : {counts : ℕ → ℕ → ℕ → ℕ → Type 0} {x mask : List ℕ} {row p worst : ℕ} → Passed counts x mask row p worst → worst ≡ 0 → (wide end : ℕ) → row ≡ wide → p ≡ end
+    → EvenBy counts x mask wide end
+none_over {counts} {x} {mask} {row} {p} {worst} h z wide end e f =
+    subst (λ (w : ℕ). EvenBy counts x mask w end) e
+    (record { at = λ q y a b k l n. let r = h.at q a (omega arith) y l n in (r.0, r.1, omega (arith, r.2)) })
 
-  left_is : (bit q : ℕ) → T (eqb (get_or mask q 0 / bit % 2) 1) → if_left x mask bit q ≡ get_or x q 0
-  left_is bit q t = rw (is_true (eqb (get_or mask q 0 / bit % 2) 1) t) refl
-
-  into_covers : Covers (most_into x mask wide)
-  unfolding opens_by
-  into_covers p y a l =
-      each_spot p a (λ q i. T (opens_by (get_or mask q 0) (way_back i)) → get_or x q 0 ≤ max (most_into x mask wide p) (get_or x p 0))
-      (λ t. omega (arith, left_is 16 (p - wide) t)) (λ t. omega (arith, left_is 8 (p - 1) t)) (λ t. omega arith)
-      (λ t. omega (arith, left_is 2 (p + 1) t)) (λ t. omega (arith, left_is 1 (p + wide) t)) y l
-
-  -- the two tests
-  pub even_around : {p end worst : ℕ} → p ≡ end → worst ≡ 0 → Below (over_at (most_around x wide) x mask) wide p worst → Even x mask wide end
-  even_around = even_of (most_around x wide) around_covers
-
-  pub even_into : {p end worst : ℕ} → p ≡ end → worst ≡ 0 → Below (over_at (most_into x mask wide) x mask) wide p worst → Even x mask wide end
-  even_into = even_of (most_into x mask wide) into_covers
+-- numbers fall by at most one where whatever counts of them, where a place may be left, are they themselves
+pub even_of : {counts : ℕ → ℕ → ℕ → ℕ → Type 0} {x mask : List ℕ} {wide end : ℕ} → ((d m y r : ℕ) → counts d m y r → T (opens_by m y) → r ≡ d) → EvenBy counts x mask wide end
+    → Even x mask wide end
+even_of {counts} {x} {mask} {wide} {end} k h p y a b f l o = go (ℕ_discrete y 2)
+  where
+    go : Dec (y ≡ 2) → get_or x (move_by wide p y) 0 ≤ suc (get_or x p 0)
+    go (yes e) = let i : move_by wide p y ≡ p = rw e (omega arith) in rw i (omega arith)
+    go (no n) = let r = h.at p y a b f l n in omega (arith, r.2, k _ _ _ _ r.1 o)
 
 -- zeros pass the test
 zeros : (q : ℕ) → get_or {A = ℕ} (replicate 1156 0) q 0 ≡ 0
@@ -102,7 +71,3 @@ zero_layer mask w h goal base = record {
   even = λ p y a b m l o. rw (zeros (move_by (w + 2) p y), zeros p) (omega arith);
   ends = rw (zeros goal) (omega arith);
 }
-
--- the padded grid is within the layer
-pub grid_fits : (w h : ℕ) → w ≤ 32 → 1 ≤ h → h ≤ 32 → (w + 2 ≤ (w + 2) * (h + 1)) × ((w + 2) * (h + 1) ≤ 1122)
-grid_fits w h a b c = (omega (arith, mul-add (w + 2) h 1), let e : w + 2 ≤ 34 = omega arith in let f : h + 1 ≤ 33 = omega arith in omega (arith, mul-le-mul e f))

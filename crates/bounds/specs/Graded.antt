@@ -12,6 +12,11 @@ abbrev pub Even : List ℕ → List ℕ → ℕ → ℕ → Type 0
 Even x mask wide end =
     (p y : ℕ) → wide ≤ p → p < end → 0 < get_or mask p 0 → y < 5 → T (opens_by (get_or mask (move_by wide p y) 0) (way_back y)) → get_or x (move_by wide p y) 0 ≤ suc (get_or x p 0)
 
+-- the same of what `counts` makes of a number, with the mask's byte of its place and the way that leads from it to p
+pub record EvenBy (counts : ℕ → ℕ → ℕ → ℕ → Type 0) (x mask : List ℕ) (wide end : ℕ) : Type 0 where
+  pub at : (p y : ℕ) → wide ≤ p → p < end → 0 < get_or mask p 0 → y < 5 → ¬ (y ≡ 2)
+      → (r : ℕ) × counts (get_or x (move_by wide p y) 0) (get_or mask (move_by wide p y) 0) (way_back y) r × (r ≤ suc (get_or x p 0))
+
 -- bounds of one label on the padded grid, at most `base` on its goal
 pub record Layer (mask : List ℕ) (w h goal base : ℕ) (x : List ℕ) : Type 0 where
   pub even : Even x mask (w + 2) ((w + 2) * (h + 1))

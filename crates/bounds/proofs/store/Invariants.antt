@@ -1,9 +1,0 @@
--- `bounds::store` meets its contract: the rows passed are copied. Assumes nothing.
-use Prim.Native.Nat.{◌+◌, ◌-◌, ◌*◌, ◌≤◌}
-use lib.ListN.{get_or}
-use Rattle.bars.specs.Padded.{pad_of}
-use Rattle.layers.specs.Fill.{Filled}
-use Rattle.bounds.proofs.store.Given as goal
-
-abbrev pub invariant-loop-y : goal.invariant-loop-y
-invariant-loop-y l = (l.y ≤ l.h) × Filled l.at (l.at + l.y * l.w) (λ p. get_or l.layer (pad_of l.w (p - l.at)) 0) l.initial.table l.table
