@@ -1,14 +1,7 @@
 -- What is left of the collisions at each place of the nested loops, and how a turn takes one step off it. Assumes nothing.
-use Prim.Native.Nat.{ℕ, zero, suc, ◌+◌, ◌-◌, ◌≤◌, ◌<◌}
-use mathlib.Core.Path.{◌≡◌, refl, sym, ap, ap₂, ◌∙◌}
-use mathlib.Core.Logic.{◌⊎◌, inl, inr}
-use mathlib.Core.Bool.{Bool, true, false, cond}
-use mathlib.Core.List.{List, [], ◌∷◌, ◌++◌, map, append_assoc, map-append}
-use native.Mathlib.Nat.{eq-or-lt_of_le, sub-zero}
-use native.Mathlib.Omega.{arith}
-use native.Mathlib.Numerals.{add-one}
-use lib.Dec.{ltb}
-use borrow.Author.Tests.{lt-ltb, le-ltb}
+use Rattle.std.proofs.Common.{ℕ, zero, suc, ◌+◌, ◌-◌, ◌≤◌, ◌<◌, ◌≡◌, refl, sym, ap, ap₂, ◌∙◌, ◌⊎◌, inl, inr, Bool, true, false, cond, List, [], ◌∷◌, ◌++◌, map, append_assoc, eq-or-lt_of_le, arith, add-one, ltb, lt-ltb, le-ltb}
+use mathlib.Core.List.{map-append}
+use native.Mathlib.Nat.{sub-zero}
 use Rattle.deck.specs.Lists.{count_from, below, select, each, head_of}
 use Rattle.deck.specs.Collisions.{pairs, place_collides, move_collides, place_collision, move_collision, collisions_at, collisions, first_collision}
 use Rattle.deck.specs.declared.Collision.{Collision}

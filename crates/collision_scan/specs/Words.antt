@@ -1,9 +1,5 @@
 -- The paths of carriers as the words of one list, n to a carrier. Assumes nothing.
 use Rattle.std.specs.Prelude.{ℕ, ◌+◌, ◌*◌, ◌≤◌, Bool, ◌&&◌, not, List, length, get_or, eqb}
-use Rattle.deck.specs.declared.Carrier.{Carrier}
-use Rattle.deck.specs.declared.Collision.TheVariants.{Place, Move}
-use Rattle.deck.specs.declared.CollisionAnswer.{CollisionAnswer}
-use Rattle.deck.specs.declared.CollisionAnswer.TheVariants.{Found}
 
 -- the place of carrier i at t
 abbrev pub place_in : List ℕ → ℕ → ℕ → ℕ → ℕ
@@ -22,10 +18,3 @@ unfoldable pub exchanges : List ℕ → ℕ → ℕ → ℕ → ℕ → Bool
 exchanges ws n i j t =
     eqb (place_in ws n i t) (place_in ws n j (t + 1)) && eqb (place_in ws n i (t + 1)) (place_in ws n j t)
     && not (eqb (place_in ws n i t) (place_in ws n i (t + 1)))
-
--- the collisions of i and j at t as the answer has them
-abbrev pub place_answer : List ℕ → ℕ → Carrier → Carrier → ℕ → CollisionAnswer
-place_answer ws n i j t = Found (Place t i j (place_in ws n i.0 t))
-
-abbrev pub move_answer : List ℕ → ℕ → Carrier → Carrier → ℕ → CollisionAnswer
-move_answer ws n i j t = Found (Move t i j (place_in ws n i.0 t) (place_in ws n i.0 (t + 1)))
