@@ -64,9 +64,9 @@ impl Paths<'_> {
         j < self.count && self.place(Carrier(j), t) != self.place(i, s)
     }
 
-    // Marks the places at t with the time and the carrier: 16 × (t + 1) and the carrier's number, so that all marks of a time are
-    // greater than those of the times before, and 0 is none. The answer is false if two carriers may collide at t, or by their steps
-    // to it; the marks are those of the time before t, if there is one.
+    // Marks the places at t: 16 × (t + 1) and the carrier's number, so that all marks of a time are greater than those of the times
+    // before, and than the 0 of a place that nobody was on. The answer is false if two carriers may collide at t, or by their steps to
+    // it; the marks are those of the time before t, if there is one.
     fn mark_places(&self, t: usize, seen: &mut [u32; 1024]) -> bool
         requires in_bounds { (self.now.count ≤ 16) × (t ≤ self.now.last) × (length seen.old ≡ 1024) }
         requires marked { 0 < t → Marked self.now.words.now (suc self.now.last) self.now.count (t - 1) seen.old }
@@ -101,6 +101,7 @@ impl Paths<'_> {
     }
 
     // The first collision. Pairs are tested from the time on that the marks give.
+    // Kept: nested loops over times and pairs, left by a label, are what document 01 asks for, so the loops of the two kinds stay apart.
     pub fn first_collision(&self) -> Option<Collision>
         ensures { result ≡ first_collision self.now.count self.now.last (pieces self.now.count (suc self.now.last) self.now.words.now) }
     {
