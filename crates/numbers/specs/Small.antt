@@ -1,44 +1,38 @@
--- Answers whose values fit words of 32 bits, and whose refusals have a cause. Assumes nothing.
-use Rattle.std.specs.Prelude.{ℕ, ◌<◌}
+-- Answers whose values fit words of 32 bits. Assumes nothing.
+use Rattle.std.specs.Prelude.{ℕ, ◌<◌, Option, None, Some, Result, Ok, Err}
+use Rattle.deck.specs.declared.Assignment.{Assignment}
 use Rattle.deck.specs.declared.Collision.{Collision}
 use Rattle.deck.specs.declared.Collision.TheVariants.{Place, Move}
-use Rattle.deck.specs.declared.PathAnswer.{PathAnswer}
-use Rattle.deck.specs.declared.PathAnswer.TheVariants.{Found as PathFound, NoPath, Refused as PathRefused}
-use Rattle.deck.specs.declared.AssignmentKind.{AssignmentKind}
-use Rattle.deck.specs.declared.AssignmentKind.TheVariants.{Least, NoAssignment, Refused as AssignmentRefused}
-use Rattle.deck.specs.declared.CollisionAnswer.{CollisionAnswer}
-use Rattle.deck.specs.declared.CollisionAnswer.TheVariants.{Found as CollisionFound, NoCollision, Refused as CollisionRefused}
 use Rattle.deck.specs.declared.SearchAnswer.{SearchAnswer}
-use Rattle.deck.specs.declared.CheckAnswer.{CheckAnswer}
-use Rattle.deck.specs.declared.CheckAnswer.TheVariants.{Yes, No, Refused as CheckRefused}
+use Rattle.deck.specs.declared.SearchAnswer.TheVariants.{Plan, NoPlan, Spent}
+use Rattle.deck.specs.declared.cause.Cause.{Cause}
 
 -- 2 to the 32
 abbrev pub word : ℕ
 word = 4294967296
 
-abbrev pub SmallPath : PathAnswer → Type 0
-SmallPath (PathFound t) = t < word
-SmallPath NoPath = Unit {0}
-SmallPath (PathRefused c) = 0 < c
+-- of a number that is found, as a finish, a sum or a flowtime
+abbrev pub SmallNumber : Result (Option ℕ) Cause → Type 0
+SmallNumber (Ok (Some n)) = n < word
+SmallNumber (Ok None) = Unit {0}
+SmallNumber (Err c) = Unit {0}
 
-abbrev pub SmallAssignment : AssignmentKind → Type 0
-SmallAssignment (Least n) = n < word
-SmallAssignment NoAssignment = Unit {0}
-SmallAssignment (AssignmentRefused c) = 0 < c
+abbrev pub SmallAssignment : Result (Option Assignment) Cause → Type 0
+SmallAssignment (Ok (Some a)) = a.sum < word
+SmallAssignment (Ok None) = Unit {0}
+SmallAssignment (Err c) = Unit {0}
 
 abbrev pub SmallCollision : Collision → Type 0
 SmallCollision (Place t i j u) = (t < word) × (i.0 < word) × (j.0 < word) × (u < word)
 SmallCollision (Move t i j u v) = (t < word) × (i.0 < word) × (j.0 < word) × (u < word) × (v < word)
 
-abbrev pub SmallFound : CollisionAnswer → Type 0
-SmallFound (CollisionFound c) = SmallCollision c
-SmallFound NoCollision = Unit {0}
-SmallFound (CollisionRefused c) = 0 < c
+abbrev pub SmallFound : Result (Option Collision) Cause → Type 0
+SmallFound (Ok (Some c)) = SmallCollision c
+SmallFound (Ok None) = Unit {0}
+SmallFound (Err c) = Unit {0}
 
-abbrev pub SmallSearch : SearchAnswer → Type 0
-SmallSearch a = (a.flowtime < word) × (a.nodes < word) × (a.bound < word)
-
-abbrev pub SmallCheck : CheckAnswer → Type 0
-SmallCheck (Yes f) = f < word
-SmallCheck No = Unit {0}
-SmallCheck (CheckRefused c) = 0 < c
+abbrev pub SmallSearch : Result SearchAnswer Cause → Type 0
+SmallSearch (Ok (Plan tasks f n b)) = (f < word) × (n < word) × (b < word)
+SmallSearch (Ok (NoPlan n)) = n < word
+SmallSearch (Ok (Spent n b)) = (n < word) × (b < word)
+SmallSearch (Err c) = Unit {0}

@@ -1,134 +1,91 @@
 // Answers as numbers of 32 bits: every value of an answer is far below 2^32.
 #![tactic(auto)]
 
-ghost use Rattle.std.specs.Prelude.{◌≡◌, ◌++◌, ◌<◌, take};
-ghost use Rattle.deck.specs.Numbers.{path_numbers, assignment_numbers, collision_numbers, kind_numbers, search_numbers, check_numbers};
-ghost use Rattle.numbers.specs.Small.{word, SmallPath, SmallAssignment, SmallCollision, SmallFound, SmallSearch, SmallCheck};
+ghost use Rattle.std.specs.Prelude.{◌≡◌, ◌++◌};
+ghost use Rattle.deck.specs.Numbers.{found_numbers, assignment_numbers, collision_numbers, search_numbers};
+ghost use Rattle.deck.specs.Causes.{number};
+ghost use Rattle.numbers.specs.Small.{SmallNumber, SmallAssignment, SmallFound, SmallSearch};
 
-use deck::{
-    AssignmentKind, CheckAnswer, Collision, CollisionAnswer, PathAnswer, SearchAnswer, SearchKind,
-};
+use deck::{Assignment, Cause, Collision, SearchAnswer};
 
-pub fn narrow(x: usize) -> u32
-    requires { x < word }
-    ensures { result ≡ x }
+// A task list of 12 with no task.
+const NO_TASKS: [u8; 12] = [255; 12];
+
+// The number of a cause.
+fn number(cause: Cause) -> u32
+    ensures { result ≡ number cause }
 {
-    x as u32
+    u32::from(u8::from(cause))
 }
 
-pub fn wide(x: u8) -> u32
-    ensures { result ≡ x }
+// The numbers of an answer that is a number, as the finish of a path and the flowtime of a plan that is checked: cause, 1 if there is
+// one, and the number.
+pub fn found_numbers(answer: Result<Option<usize>, Cause>) -> [u32; 3]
+    requires { SmallNumber answer }
+    ensures { result ≡ found_numbers answer }
 {
-    x as u32
-}
-
-pub fn path_numbers(a: PathAnswer) -> [u32; 3]
-    requires { SmallPath a }
-    ensures { result ≡ path_numbers a }
-{
-    match a {
-        PathAnswer::Found(t) => [0, 1, narrow(t)],
-        PathAnswer::NoPath => [0, 0, 0],
-        PathAnswer::Refused(c) => [wide(c), 0, 0],
+    match answer {
+        Ok(Some(n)) => [0, 1, n as u32],
+        Ok(None) => [0, 0, 0],
+        Err(cause) => [number(cause), 0, 0],
     }
 }
 
-pub fn assignment_numbers(a: AssignmentKind) -> [u32; 3]
-    requires { SmallAssignment a }
-    ensures { result ≡ assignment_numbers a }
+// The numbers of an assignment: those of its sum.
+pub fn assignment_numbers(answer: Result<Option<Assignment>, Cause>) -> [u32; 3]
+    requires { SmallAssignment answer }
+    ensures { result ≡ assignment_numbers answer }
 {
-    match a {
-        AssignmentKind::Least(n) => [0, 1, narrow(n)],
-        AssignmentKind::NoAssignment => [0, 0, 0],
-        AssignmentKind::Refused(c) => [wide(c), 0, 0],
-    }
+    found_numbers(answer.map(|found| found.map(|a| a.sum)))
 }
 
-pub fn check_numbers(a: CheckAnswer) -> [u32; 3]
-    requires { SmallCheck a }
-    ensures { result ≡ check_numbers a }
+// The numbers of a collision: cause, 1 if there is one, its kind and its values.
+pub fn collision_numbers(answer: Result<Option<Collision>, Cause>) -> [u32; 8]
+    requires { SmallFound answer }
+    ensures { result ≡ collision_numbers answer }
 {
-    match a {
-        CheckAnswer::Yes(f) => [0, 1, narrow(f)],
-        CheckAnswer::No => [0, 0, 0],
-        CheckAnswer::Refused(c) => [wide(c), 0, 0],
-    }
-}
-
-// A collision that was found: cause 0, 1 for a collision, its kind and its values.
-fn found_numbers(c: Collision) -> [u32; 8]
-    requires { SmallCollision c }
-    ensures { result ≡ collision_numbers (CollisionAnswer.Found c) }
-{
-    match c {
-        Collision::Place { t, i, j, u } => [
-            0,
-            1,
-            0,
-            narrow(t),
-            narrow(i.0),
-            narrow(j.0),
-            narrow(u),
-            0,
-        ],
-        Collision::Move { t, i, j, u, v } => [
-            0,
-            1,
-            1,
-            narrow(t),
-            narrow(i.0),
-            narrow(j.0),
-            narrow(u),
-            narrow(v),
-        ],
-    }
-}
-
-pub fn collision_numbers(a: CollisionAnswer) -> [u32; 8]
-    requires { SmallFound a }
-    ensures { result ≡ collision_numbers a }
-{
-    match a {
-        CollisionAnswer::Found(c) => found_numbers(c),
-        CollisionAnswer::NoCollision => [0; 8],
-        CollisionAnswer::Refused(c) => [wide(c), 0, 0, 0, 0, 0, 0, 0],
-    }
-}
-
-fn kind_numbers(kind: SearchKind) -> [u32; 2]
-    ensures { result ≡ kind_numbers kind }
-{
-    match kind {
-        SearchKind::Plan => [0, 0],
-        SearchKind::NoPlan => [0, 1],
-        SearchKind::Spent => [0, 2],
-        SearchKind::Refused(c) => [wide(c), 3],
+    match answer {
+        Ok(Some(Collision::Place { t, i, j, u })) => {
+            [0, 1, 0, t as u32, i.0 as u32, j.0 as u32, u as u32, 0]
+        }
+        Ok(Some(Collision::Move { t, i, j, u, v })) => {
+            [
+                0, 1, 1, t as u32, i.0 as u32, j.0 as u32, u as u32, v as u32,
+            ]
+        }
+        Ok(None) => [0; 8],
+        Err(cause) => [number(cause), 0, 0, 0, 0, 0, 0, 0],
     }
 }
 
 // The task list behind the first five numbers.
-fn with_tasks(head: [u32; 17], tasks: [u8; 12]) -> [u32; 17]
-    ensures { result ≡ take 5 head ++ tasks }
+fn with_tasks(head: [u32; 5], tasks: &[u8; 12]) -> [u32; 17]
+    ensures { result ≡ head ++ tasks.now }
 {
-    let mut r = head;
-    for k in 0..12usize {
-        r[5 + k] = wide(tasks[k]);
-    }
-    r
+    let mut numbers = [0; 17];
+    numbers[..5].copy_from_slice(&head);
+    numbers[5..].copy_from_slice(&tasks.map(|task| u32::from(task)));
+    numbers
 }
 
-pub fn search_numbers(a: SearchAnswer) -> [u32; 17]
-    requires { SmallSearch a }
-    ensures { result ≡ search_numbers a }
+// The numbers of a search: cause, kind, flowtime, nodes made, bound, and the task list.
+pub fn search_numbers(answer: Result<SearchAnswer, Cause>) -> [u32; 17]
+    requires { SmallSearch answer }
+    ensures { result ≡ search_numbers answer }
 {
-    let kind = a.kind;
-    let tasks = a.tasks;
-    let first = kind_numbers(kind);
-    let mut head = [0u32; 17];
-    head[0] = first[0];
-    head[1] = first[1];
-    head[2] = narrow(a.flowtime);
-    head[3] = narrow(a.nodes);
-    head[4] = narrow(a.bound);
-    with_tasks(head, tasks)
+    match answer {
+        Ok(
+            SearchAnswer::Plan {
+                tasks,
+                flowtime,
+                nodes,
+                bound,
+            },
+        ) => with_tasks([0, 0, flowtime as u32, nodes as u32, bound as u32], &tasks),
+        Ok(SearchAnswer::NoPlan { nodes }) => with_tasks([0, 1, 0, nodes as u32, 0], &NO_TASKS),
+        Ok(SearchAnswer::Spent { nodes, bound }) => {
+            with_tasks([0, 2, 0, nodes as u32, bound as u32], &NO_TASKS)
+        }
+        Err(cause) => with_tasks([number(cause), 3, 0, 0, 0], &NO_TASKS),
+    }
 }
