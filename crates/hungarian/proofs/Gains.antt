@@ -1,23 +1,26 @@
 -- The rows of the tree, the ways to them, and what the prices rise by. Assumes nothing.
-use Prim.Native.Nat.{ℕ, zero, suc, ◌+◌, ◌-◌, ◌≤◌, ◌<◌}
-use mathlib.Core.Path.{◌≡◌, refl, sym, ap, ◌∙◌}
-use mathlib.Core.Logic.{◌⊎◌, inl, inr, ⊎_elim, ◌≢◌}
-use mathlib.Core.Bool.{Bool, true, false, false≢true}
-use mathlib.Core.List.{List, [], ◌∷◌}
+use Rattle.std.proofs.Common.{Option, None, Some, ℕ, zero, suc, ◌+◌, ◌-◌, ◌≤◌, ◌<◌, ◌≡◌, refl, sym, ap, ◌∙◌, ◌⊎◌, inl, inr, ⊎_elim, ◌≢◌, Bool, true, false, List, [], ◌∷◌, not-suc-le-zero, eq-or-lt_of_le, le_of_suc-le-suc, add-one, arith, length, get_or, set, length-set, get_or-set_same, get_or-set_other, eq-eqb, ne_eqb, lt-ltb, le-ltb}
+use mathlib.Core.Bool.{false≢true}
 use native.Mathlib.Decide.{ℕ_discrete}
-use native.Mathlib.Nat.{not-suc-le-zero, eq-or-lt_of_le, le_of_suc-le-suc}
-use native.Mathlib.Numerals.{add-one}
-use native.Mathlib.Omega.{arith}
-use lib.ListN.{length, get_or, set, length-set}
-use lib.Seq.{get_or-set_same, get_or-set_other}
-use borrow.Author.Tests.{eq-eqb, ne_eqb, lt-ltb, le-ltb}
+use Rattle.std.proofs.lemmas.List.{get_or-map}
 use Rattle.meaning.specs.Meaning.{◌at◌}
 use Rattle.prices.specs.Matching.{Put}
 use Rattle.prices.proofs.Growth.{lower}
-use Rattle.hungarian.specs.Solving.{marked, unmarked, in_tree, way_to, gain_of, row_gain}
+use Rattle.deck.specs.declared.Carrier.{Carrier}
+use Rattle.deck.specs.declared.Task.{Task}
+use Rattle.hungarian.specs.declared.Column.{Column}
+use Rattle.hungarian.proofs.Columns.{blank, mark_at, near_at}
+use Rattle.hungarian.specs.Solving.{task_number, carrier_number, task_numbers, carrier_numbers, marks, nears, marked, unmarked, in_tree, way_to, gain_of, row_gain}
 
 pub put_set : {A : Type 0} (l : List A) (k : ℕ) (x d : A) → k < length l → Put (λ i. get_or l i d) k x (λ i. get_or (set l k x) i d)
 put_set l k x d h = record { same = get_or-set_same l k x d h; other = λ i n. get_or-set_other l k i x d n }
+
+-- the number of a pair that is read
+pub task_at : (l : List (Option Task)) (i : ℕ) (o : Option Task) → i < length l → get_or l i None ≡ o → task_numbers l at i ≡ task_number o
+task_at l i o h e = get_or-map task_number l i None 0 h ∙ ap task_number e
+
+pub carrier_at : (l : List (Option Carrier)) (j : ℕ) (o : Option Carrier) → j < length l → get_or l j None ≡ o → carrier_numbers l at j ≡ carrier_number o
+carrier_at l j o h e = get_or-map carrier_number l j None 0 h ∙ ap carrier_number e
 
 -- one mark more
 pub unmarked_set : (l : List Bool) (k : ℕ) → k < length l → marked l k ≡ false → suc (unmarked (set l k true)) ≡ unmarked l
@@ -76,6 +79,27 @@ module _ (m r : ℕ) (task : List ℕ) (columns : List Bool) (near : List ℕ) (
   pub gain_column : x ≢ r → task at x < m → gain_of (marked columns (task at x)) (near at (task at x)) total ≡ row_gain m r task columns near total x
   unfolding row_gain
   gain_column n l = rw (tree_column m r task columns x n l, way_column r task near x n)
+
+-- the gain of a row that is not the root, by what is read of its task and that task's column
+module _ (m r : ℕ) (tasks : List (Option Task)) (columns : List Column) (total x : ℕ) (other : x ≢ r) (long : x < length tasks) where
+  pub gain_free : m ≤ 12 → get_or tasks x None ≡ None → 0 ≡ row_gain m r (task_numbers tasks) (marks columns) (nears columns) total x
+  gain_free few e = gain_none m r (task_numbers tasks) (marks columns) (nears columns) total x other (omega (arith, task_at tasks x None long e))
+
+  module _ (j : Task) (own : get_or tasks x None ≡ Some j) (low : j.0 < m) where
+    number : task_numbers tasks at x ≡ j.0
+    number = task_at tasks x (Some j) long own
+
+    pub own_early : (in_tree m r (task_numbers tasks) (marks columns) x ≡ true → way_to r (task_numbers tasks) (nears columns) x ≤ total)
+        → (get_or columns j.0 blank).marked ≡ true → (get_or columns j.0 blank).near ≤ total
+    own_early h b =
+        let e : in_tree m r (task_numbers tasks) (marks columns) x ≡ marked (marks columns) j.0 = tree_column m r (task_numbers tasks) (marks columns) x other (omega (arith, number)) ∙ ap (marked (marks columns)) number in
+        let w : way_to r (task_numbers tasks) (nears columns) x ≡ nears columns at j.0 = way_column r (task_numbers tasks) (nears columns) x other ∙ ap (◌at◌ (nears columns)) number in
+        omega (arith, h (e ∙ mark_at columns j.0 ∙ b), w, near_at columns j.0)
+
+    pub gain_own : gain_of (get_or columns j.0 blank).marked (get_or columns j.0 blank).near total ≡ row_gain m r (task_numbers tasks) (marks columns) (nears columns) total x
+    gain_own =
+        rw (← mark_at columns j.0, ← near_at columns j.0, ← number)
+        (gain_column m r (task_numbers tasks) (marks columns) (nears columns) total x other (omega (arith, number)))
 
 -- the first n of old are raised by f, the others are as they were
 pub record RaisedTo (f : ℕ → ℕ) (old : List ℕ) (n : ℕ) (new : List ℕ) : Type 0 where

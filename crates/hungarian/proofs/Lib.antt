@@ -1,4 +1,3 @@
-pub mod Sides
-pub mod Labels
+pub mod Columns
 pub mod Gains
 pub mod Rounds

@@ -1,25 +1,24 @@
 -- A round over arrays: the tree of a row begins, grows by the nearest column, and reaches a free one; the way back goes a step, and
 -- ends. Assumes nothing.
-use Prim.Native.Nat.{ℕ, suc, ◌+◌, ◌-◌, ◌≤◌, ◌<◌, ◌^◌, zero-le}
-use mathlib.Core.Path.{◌≡◌, refl, sym, ap, subst, ◌∙◌}
-use mathlib.Core.Logic.{◌⊎◌, inl, inr, ⊎_elim, ◌≢◌}
-use mathlib.Core.Bool.{Bool, true, false, cond, false≢true}
-use mathlib.Core.List.{List}
-use native.Mathlib.Nat.{not-suc-le-zero, le_refl}
+use Rattle.std.proofs.Common.{Option, None, Some, get_or, ℕ, suc, ◌+◌, ◌-◌, ◌≤◌, ◌<◌, ◌^◌, zero-le, ◌≡◌, refl, sym, ap, subst, ◌∙◌, ◌⊎◌, inl, inr, ⊎_elim, ◌≢◌, Bool, true, false, cond, List, not-suc-le-zero, le_refl, arith, length, set, replicate, length-set, get_or-set_same, get_or-set_other, eqb, eq-eqb, ne_eqb}
+use mathlib.Core.Bool.{false≢true}
 use native.Mathlib.Decide.{ℕ_discrete}
-use native.Mathlib.Omega.{arith}
-use lib.ListN.{length, set, replicate, length-set, get_or-replicate, get_or-eq_default}
-use lib.Seq.{get_or-set_same, get_or-set_other}
-use lib.Dec.{eqb}
-use borrow.Author.Tests.{eq-eqb, ne_eqb}
+use lib.ListN.{get_or-replicate, get_or-eq_default}
 use Rattle.meaning.specs.Meaning.{◌at◌}
-use Rattle.prices.specs.Matching.{Put, Raised, LeastSlack, Matches, Tree}
+use Rattle.prices.specs.Matching.{Put, Raised, LeastSlack, Matches, Tree, Bounded}
 use Rattle.prices.specs.Square.{cell}
 use Rattle.prices.proofs.Growth.{lower, marked_or_not, same_prices, same_from, bounded, some_outside, rows_fit, columns_fit, raised_matching, joined, last_tree, turn_begins, turn_ends, turn_next}
+use Rattle.std.proofs.lemmas.List.{map-set, length-map}
+use Rattle.std.proofs.lemmas.Option.{none-some}
+use Rattle.meaning.proofs.Lists.{get_or_same}
+use Rattle.deck.specs.declared.Carrier.{Carrier}
+use Rattle.deck.specs.declared.Task.{Task}
+use Rattle.hungarian.specs.declared.Column.{Column}
+use Rattle.hungarian.specs.declared.Pairs.{Pairs}
 use Rattle.hungarian.specs.declared.Edge.{Edge}
-use Rattle.hungarian.specs.Solving.{by_carrier, by_task, marked, unmarked, farthest, slack_of, Slacks, Relaxed, Closest, in_tree, way_to, gain_of, row_gain, row_price, column_price, Light, Solved, Grown, Way, Reaches}
-use Rattle.hungarian.proofs.Labels.{label_kept, label_moved}
-use Rattle.hungarian.proofs.Gains.{put_set, unmarked_set, tree_root, tree_column, tree_none, tree_row, way_root, way_column, gain_in, gain_out}
+use Rattle.hungarian.specs.Solving.{task_number, carrier_number, task_numbers, carrier_numbers, froms, paired, Within, marked, unmarked, farthest, slack_of, Slacks, Relaxed, Closest, in_tree, way_to, gain_of, row_gain, row_price, column_price, Light, Solved, Grown, Way, Reaches}
+use Rattle.hungarian.proofs.Columns.{blank, from_at, label_kept, label_moved}
+use Rattle.hungarian.proofs.Gains.{task_at, put_set, unmarked_set, tree_root, tree_column, tree_none, tree_row, way_root, way_column, gain_in, gain_out}
 
 none_marked : (k : ℕ) → marked (replicate 12 false) k ≡ false
 none_marked k = ⊎_elim (λ l. get_or-replicate 12 k false false l) (λ l. get_or-eq_default (replicate 12 false) false l) (lower k 12)
@@ -166,7 +165,7 @@ module _ (m : ℕ) (w : List ℕ) (r : ℕ) (small : m ≤ 12) (low : r < m) (li
     later y ly h = ⊎_elim (λ z. omega (arith, z.0, G.late y ly h)) (λ z. omega (arith, z.0)) (label_moved m w u v columns total i near from near' from' R y ly h)
 
     -- a column outside the tree is there, and the nearest of these is found
-    pub next_column : (e.task.0 < m) × (marked columns e.task.0 ≡ false) × (near' at e.task.0 ≡ e.near)
+    next_column : (e.task.0 < m) × (marked columns e.task.0 ≡ false) × (near' at e.task.0 ≡ e.near)
     next_column =
         let o = some_outside m (cell w) r U Y (◌at◌ task) (◌at◌ carrier) M low rows (marked columns) (◌at◌ from) G.order G.n G.tree in
         ⊎_elim (λ q. absurd (omega (arith, q, C.least o.0 o.1 o.2, (reach o.0 o.1 o.2).3))) (λ q. q) C.found
@@ -206,10 +205,10 @@ module _ (m : ℕ) (w : List ℕ) (r : ℕ) (small : m ≤ 12) (low : r < m) (li
         }
 
     -- the prices where the tree stops at the new length
-    pub ways_early : (x : ℕ) → rows x ≡ true → way_to r task near' x ≤ e.near
+    ways_early : (x : ℕ) → rows x ≡ true → way_to r task near' x ≤ e.near
     ways_early x h = omega (arith, way_kept x h, way_early x h, farther)
 
-    pub columns_early : (y : ℕ) → y < m → marked columns y ≡ true → near' at y ≤ e.near
+    columns_early : (y : ℕ) → y < m → marked columns y ≡ true → near' at y ≤ e.near
     columns_early y ly h = omega (arith, (label_kept m w u v columns total i near from near' from' R y ly h).0, G.early y ly h, farther)
 
     in_raised : (x : ℕ) → rows x ≡ true → row_price m r u task columns near' e.near x ≡ U x + d
@@ -232,12 +231,12 @@ module _ (m : ℕ) (w : List ℕ) (r : ℕ) (small : m ≤ 12) (low : r < m) (li
     out_column_raised : (y : ℕ) → marked columns y ≡ false → column_price v columns near' e.near y ≡ Y y
     out_column_raised y h = omega (arith, out_column y h, no_gain (marked columns y) (near' at y) e.near h)
 
-    pub rows_in_range : (x : ℕ) → x < m → row_price m r u task columns near' e.near x < 2 ^ 64
+    rows_in_range : (x : ℕ) → x < m → row_price m r u task columns near' e.near x < 2 ^ 64
     rows_in_range x lx = ⊎_elim
         (λ h. omega (arith, in_raised x h, rows_fit m (cell w) r U Y (◌at◌ task) (◌at◌ carrier) M low rows (marked columns) (◌at◌ from') G.order G.n T' (from' at j) j d least_slack 9223372036854775807 light x lx h))
         (λ h. omega (arith, out_raised x h, out_price x h, (S.bounded 9223372036854775807 light x lx).0)) (marked_or_not (rows x))
 
-    pub columns_in_range : (y : ℕ) → y < m → column_price v columns near' e.near y < 2 ^ 64
+    columns_in_range : (y : ℕ) → y < m → column_price v columns near' e.near y < 2 ^ 64
     columns_in_range y ly = ⊎_elim
         (λ h. omega (arith, in_column_raised y ly h, columns_fit m (cell w) r U Y (◌at◌ task) (◌at◌ carrier) M low rows (marked columns) (◌at◌ from') G.order G.n T' (from' at j) j d least_slack 9223372036854775807 light y ly h))
         (λ h. omega (arith, out_column_raised y h, out_column y h, (S.bounded 9223372036854775807 light y ly).1)) (marked_or_not (marked columns y))
@@ -246,11 +245,11 @@ module _ (m : ℕ) (w : List ℕ) (r : ℕ) (small : m ≤ 12) (low : r < m) (li
     in_columns = omega (arith, next_column.0, G.sizes.2)
 
     -- there is room for one column more
-    pub fewer : suc (unmarked (set columns j true)) ≡ unmarked columns
+    fewer : suc (unmarked (set columns j true)) ≡ unmarked columns
     fewer = unmarked_set columns j in_columns next_column.1
 
     -- COLUMN j IS FREE: the round's prices, and the way back from there
-    pub grown_reaches : m ≤ carrier at j → (u' v' : List ℕ) → ((x : ℕ) → x < m → u' at x ≡ row_price m r u task columns near' e.near x) → length u' ≡ 12
+    grown_reaches : m ≤ carrier at j → (u' v' : List ℕ) → ((x : ℕ) → x < m → u' at x ≡ row_price m r u task columns near' e.near x) → length u' ≡ 12
         → ((y : ℕ) → y < m → v' at y ≡ column_price v columns near' e.near y) → length v' ≡ 12 → Reaches m w r u' v' from' task carrier j
     grown_reaches l u' v' P su Q sv = record {
       way = record {
@@ -377,7 +376,7 @@ module _ (m : ℕ) (w : List ℕ) (r : ℕ) (small : m ≤ 12) (low : r < m) (li
           let n : y ≢ j = λ q. false≢true (sym h ∙ ap (marked columns') q ∙ marked_j) in
           (n, sym (marked_other y n) ∙ h)
 
-      pub grown_joins : Grown m w r u v task carrier columns' near' from' e.near (carrier at j)
+      grown_joins : Grown m w r u v task carrier columns' near' from' e.near (carrier at j)
       grown_joins = record {
         order = put_at G.order j G.n;
         n = suc G.n;
@@ -403,6 +402,26 @@ module _ (m : ℕ) (w : List ℕ) (r : ℕ) (small : m ≤ 12) (low : r < m) (li
           least x y lx ly h n out =
               let old : rows x ≡ true = sym (row_other x lx n) ∙ h in
               omega (arith, no_shorter x y lx ly old out, way_kept x old)
+
+    -- WHAT A TURN OF THE LOOP GIVES
+    pub record Turn : Type 0 where
+      pub in_range : e.task.0 < m
+      pub rows_rise : (x : ℕ) → x < m → (in_tree m r task columns x ≡ true → way_to r task near' x ≤ e.near) × (row_price m r u task columns near' e.near x < 2 ^ 64)
+      pub columns_rise : (y : ℕ) → y < m → (marked columns y ≡ true → near' at y ≤ e.near) × (column_price v columns near' e.near y < 2 ^ 64)
+      pub one_fewer : suc (unmarked (set columns e.task.0 true)) ≡ unmarked columns
+      pub joins : carrier at e.task.0 < m → Grown m w r u v task carrier (set columns e.task.0 true) near' from' e.near (carrier at e.task.0)
+      pub reaches : m ≤ carrier at e.task.0 → (u' v' : List ℕ) → ((x : ℕ) → x < m → u' at x ≡ row_price m r u task columns near' e.near x) → length u' ≡ 12
+          → ((y : ℕ) → y < m → v' at y ≡ column_price v columns near' e.near y) → length v' ≡ 12 → Reaches m w r u' v' from' task carrier e.task.0
+
+    pub turn : Turn
+    turn = record {
+      in_range = next_column.0;
+      rows_rise = λ x lx. (ways_early x, rows_in_range x lx);
+      columns_rise = λ y ly. (columns_early y ly, columns_in_range y ly);
+      one_fewer = fewer;
+      joins = grown_joins;
+      reaches = grown_reaches;
+    }
 
 module _ (m : ℕ) (w : List ℕ) (r : ℕ) (small : m ≤ 12) (low : r < m) where
   -- a step of the way back: row from j takes column j
@@ -441,9 +460,67 @@ module _ (m : ℕ) (w : List ℕ) (r : ℕ) (small : m ≤ 12) (low : r < m) whe
             left = omega (arith, t.1, H.left);
           }
 
+-- a step of the way back over the code's columns and pairs: the row that column t was reached from takes it
+module _ (m : ℕ) (w : List ℕ) (r : ℕ) (small : m ≤ 12) (low : r < m) (u v : List ℕ) (columns : List Column) (p : Pairs) (t : Task) (k : ℕ)
+    (H : Way m (cell w) r (◌at◌ u) (◌at◌ v) (◌at◌ (froms columns)) (◌at◌ (task_numbers p.tasks)) (◌at◌ (carrier_numbers p.carriers)) t.0 k) where
+  abbrev own : Carrier
+  own = (get_or columns t.0 blank).from
+
+  pub step_low : (t.0 < m) × (own.0 < m)
+  step_low =
+      let l = way_low m w r small low u v (froms columns) (task_numbers p.tasks) (carrier_numbers p.carriers) t.0 k H in
+      (l.0, omega (arith, from_at columns t.0, l.1))
+
+  module _ (tasks : length p.tasks ≡ 12) (carriers : length p.carriers ≡ 12) where
+    number : (o : Option Task) → get_or p.tasks own.0 None ≡ o → task_numbers p.tasks at (froms columns at t.0) ≡ task_number o
+    number o e = ap (◌at◌ (task_numbers p.tasks)) (from_at columns t.0) ∙ task_at p.tasks own.0 o (omega (arith, step_low.1)) e
+
+    numbers : (length (task_numbers p.tasks) ≡ 12) × (length (carrier_numbers p.carriers) ≡ 12)
+    numbers = (length-map p.tasks task_number ∙ tasks, length-map p.carriers carrier_number ∙ carriers)
+
+    pub step_ends : Bounded m (cell w) (◌at◌ u) (◌at◌ v) → length u ≡ 12 → length v ≡ 12 → get_or p.tasks own.0 None ≡ None
+        → Solved m w (suc r) u v (task_numbers (paired p own t).tasks) (carrier_numbers (paired p own t).carriers)
+    step_ends B su sv e =
+        let M = way_ends m w r small low u v (froms columns) (task_numbers p.tasks) (carrier_numbers p.carriers) t.0 k H numbers.0 numbers.1 (omega (arith, number None e)) in
+        record {
+          matches = rw (map-set task_number p.tasks own.0 (Some t), map-set carrier_number p.carriers t.0 (Some own)) (rw (from_at columns t.0) at M);
+          bounded = B;
+          sizes = (
+            su,
+            sv,
+            length-map (paired p own t).tasks task_number ∙ length-set p.tasks own.0 (Some t) ∙ tasks,
+            length-map (paired p own t).carriers carrier_number ∙ length-set p.carriers t.0 (Some own) ∙ carriers,
+          );
+        }
+
+    pub step_next : (j : Task) → get_or p.tasks own.0 None ≡ Some j → j.0 < m
+        → Way m (cell w) r (◌at◌ u) (◌at◌ v) (◌at◌ (froms columns)) (◌at◌ (task_numbers (paired p own t).tasks)) (◌at◌ (carrier_numbers (paired p own t).carriers)) j.0 (k + 1)
+    step_next j e l =
+        let W = way_next m w r small low u v (froms columns) (task_numbers p.tasks) (carrier_numbers p.carriers) t.0 k H numbers.0 numbers.1 (omega (arith, number (Some j) e)) in
+        rw (map-set task_number p.tasks own.0 (Some t), map-set carrier_number p.carriers t.0 (Some own)) (rw (number (Some j) e, from_at columns t.0) at W)
+
+    pub step_within : Within m p → Within m (paired p own t)
+    step_within W = record {
+      tasks = λ i j e. at_task i j e (ℕ_discrete i own.0);
+      carriers = λ j i e. at_carrier j i e (ℕ_discrete j t.0);
+    }
+      where
+        at_task : (i : ℕ) (j : Task) → get_or (set p.tasks own.0 (Some t)) i None ≡ Some j → Dec (i ≡ own.0) → j.0 < m
+        at_task i j e (yes q) =
+            let s : get_or (set p.tasks own.0 (Some t)) i None ≡ Some t = rw q (get_or-set_same p.tasks own.0 (Some t) None (omega (arith, step_low.1))) in
+            let d : Some t ≡ Some j = sym s ∙ e in
+            subst (λ (x : Task). x.0 < m) (cc d) step_low.0
+        at_task i j e (no n) = W.tasks i j (sym (get_or-set_other p.tasks own.0 i (Some t) None n) ∙ e)
+
+        at_carrier : (j : ℕ) (i : Carrier) → get_or (set p.carriers t.0 (Some own)) j None ≡ Some i → Dec (j ≡ t.0) → i.0 < m
+        at_carrier j i e (yes q) =
+            let s : get_or (set p.carriers t.0 (Some own)) j None ≡ Some own = rw q (get_or-set_same p.carriers t.0 (Some own) None (omega (arith, step_low.0))) in
+            let d : Some own ≡ Some i = sym s ∙ e in
+            subst (λ (x : Carrier). x.0 < m) (cc d) step_low.1
+        at_carrier j i e (no n) = W.carriers j i (sym (get_or-set_other p.carriers t.0 j (Some own) None n) ∙ e)
+
 -- before the first round: no price, no pair
-pub nothing_solved : (m : ℕ) (w : List ℕ) → m ≤ 12 → Solved m w 0 (by_carrier (replicate 24 0)) (by_task (replicate 24 0)) (by_carrier (replicate 24 12)) (by_task (replicate 24 12))
-unfolding by_carrier by_task
+pub nothing_solved : (m : ℕ) (w : List ℕ) → m ≤ 12 → Solved m w 0 (replicate 12 0) (replicate 12 0) (replicate 12 12) (replicate 12 12)
 nothing_solved m w small = record {
   matches = record {
     feasible = λ i j li lj. rw (at_zeros i (omega arith)) zero-le;
@@ -463,3 +540,9 @@ nothing_solved m w small = record {
 
     at_twelves : (k : ℕ) → k < 12 → replicate 12 12 at k ≡ 12
     at_twelves k l = get_or-replicate 12 k 12 0 l
+
+pub nothing_within : (m : ℕ) → Within m (record { tasks = replicate 12 None; carriers = replicate 12 None })
+nothing_within m = record {
+  tasks = λ i j e. absurd (none-some j (sym (get_or_same None 12 i) ∙ e));
+  carriers = λ j i e. absurd (none-some i (sym (get_or_same None 12 j) ∙ e));
+}

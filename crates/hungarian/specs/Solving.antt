@@ -1,19 +1,52 @@
 -- The Hungarian method's steps over arrays: the shortest ways from a row, the tree that they make, and where the way back from a
 -- free column stands. Assumes nothing.
-use Rattle.std.specs.Prelude.{ℕ, suc, ◌+◌, ◌-◌, ◌≤◌, ◌<◌, ◌≡◌, ◌⊎◌, ◌≢◌, Bool, true, false, cond, List, [], ◌∷◌, length, get_or, take, drop, ltb, eqb}
+use Rattle.std.specs.Prelude.{ℕ, suc, ◌+◌, ◌-◌, ◌≤◌, ◌<◌, ◌≡◌, ◌⊎◌, ◌≢◌, Bool, true, false, cond, List, [], ◌∷◌, length, get_or, set, map, ltb, eqb, Option, None, Some}
 use Rattle.deck.specs.Sheet.{carrier, task}
 use Rattle.meaning.specs.Meaning.{◌at◌}
 use Rattle.prices.specs.Matching.{AtMost, Bounded, Matches, Tree, Turning}
 use Rattle.prices.specs.Square.{cell}
+use Rattle.deck.specs.declared.Carrier.{Carrier}
+use Rattle.deck.specs.declared.Task.{Task}
+use Rattle.hungarian.specs.declared.Column.{Column}
 use Rattle.hungarian.specs.declared.Edge.{Edge}
-use Rattle.hungarian.specs.declared.Label.{Label}
+use Rattle.hungarian.specs.declared.Pairs.{Pairs}
 
--- an array of 24: a number for each carrier, then one for each task
-unfoldable pub by_carrier : List ℕ → List ℕ
-by_carrier l = take 12 l
+-- the number of a carrier's task and that of a task's carrier, 12 for none
+abbrev pub task_number : Option Task → ℕ
+task_number None = 12
+task_number (Some j) = j.0
 
-unfoldable pub by_task : List ℕ → List ℕ
-by_task l = drop 12 l
+abbrev pub carrier_number : Option Carrier → ℕ
+carrier_number None = 12
+carrier_number (Some i) = i.0
+
+abbrev pub task_numbers : List (Option Task) → List ℕ
+task_numbers l = map task_number l
+
+abbrev pub carrier_numbers : List (Option Carrier) → List ℕ
+carrier_numbers l = map carrier_number l
+
+-- a pair more
+abbrev pub paired : Pairs → Carrier → Task → Pairs
+paired p i j = record { tasks = set p.tasks i.0 (Some j); carriers = set p.carriers j.0 (Some i) }
+
+-- the pairs are of the first m carriers and tasks
+pub record Within (m : ℕ) (p : Pairs) : Type 0 where
+  pub tasks : (i : ℕ) (j : Task) → get_or p.tasks i None ≡ Some j → j.0 < m
+  pub carriers : (j : ℕ) (i : Carrier) → get_or p.carriers j None ≡ Some i → i.0 < m
+
+-- a column, and of a list of columns the marks, the lengths and the last rows
+abbrev pub column_at : Bool → ℕ → ℕ → Column
+column_at mark near from = record { near = near; from = carrier from; marked = mark }
+
+abbrev pub marks : List Column → List Bool
+marks l = map (λ c. c.marked) l
+
+abbrev pub nears : List Column → List ℕ
+nears l = map (λ c. c.near) l
+
+abbrev pub froms : List Column → List ℕ
+froms l = map (λ c. c.from.0) l
 
 -- a mark of an array
 abbrev pub marked : List Bool → ℕ → Bool
@@ -34,20 +67,17 @@ Slacks m w u v = (i j : ℕ) → i < m → j < m → (u at i ≤ cell w i j + v 
 -- THE SHORTEST WAYS from the row r, whose tree grows. near j is the length of the shortest way to column j so far, and from j its
 -- last row. A column's way is final as it joins the tree; total is the length of the way to the column that joined last.
 
--- the label of a column that is not marked after a way over the slack s from row i, which has the length total
-abbrev pub label : ℕ → ℕ → Label
-label near from = record { near = near; from = carrier from }
-
-unfoldable pub nearer_of : Bool → Label → ℕ → ℕ → ℕ → Label
-nearer_of mark l total s i = cond mark l (cond (ltb s (l.near - total)) (label (total + s) i) l)
+-- a column after a way over the slack s from row i, which has the length total; a marked one stays as it is
+unfoldable pub nearer_of : Column → ℕ → ℕ → ℕ → Column
+nearer_of c total s i = cond c.marked c (cond (ltb s (c.near - total)) (column_at false (total + s) i) c)
 
 -- the nearer of the edge e and the column j, where that is not marked
 unfoldable pub closer_of : Bool → ℕ → ℕ → Edge → Edge
 closer_of mark near j e = cond mark e (cond (ltb near e.near) (record { task = task j; near = near }) e)
 
--- near' and from' are the labels after the ways from row i
+-- near' and from' are those of the columns after the ways from row i
 pub record Relaxed (m : ℕ) (w u v : List ℕ) (columns : List Bool) (total i : ℕ) (near from near' from' : List ℕ) : Type 0 where
-  pub each : (k : ℕ) → k < m → label (near' at k) (from' at k) ≡ nearer_of (marked columns k) (label (near at k) (from at k)) total (slack_of w u v i k) i
+  pub each : (k : ℕ) → k < m → column_at (marked columns k) (near' at k) (from' at k) ≡ nearer_of (column_at (marked columns k) (near at k) (from at k)) total (slack_of w u v i k) i
   pub sizes : (length near' ≡ 12) × (length from' ≡ 12)
 
 -- e is the nearest of the first n columns that are not marked

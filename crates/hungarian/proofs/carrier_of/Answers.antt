@@ -1,7 +1,0 @@
--- `hungarian::carrier_of` meets its contract. Assumes nothing.
-use mathlib.Core.Path.{sym}
-use Rattle.hungarian.proofs.Sides.{task_at}
-use Rattle.hungarian.proofs.carrier_of.Goals as goal
-
-pub returns : goal.returns
-returns c = sym (task_at _ _)
