@@ -1,29 +1,20 @@
 -- What the solver finds on the weights of a table: by merged weights the first assignment in order, or that there is none. Assumes
 -- nothing.
-use Prim.Native.Nat.{ℕ, ◌≤◌, ◌<◌}
-use mathlib.Core.Path.{◌≡◌, sym, ap, subst, ◌∙◌}
-use mathlib.Core.Bool.{Bool, true, false}
-use mathlib.Core.List.{List}
-use Rattle.deck.specs.Numbers.{no_tasks}
-use Rattle.std.specs.Prelude.{None, Some}
-use native.Mathlib.Nat.{mul-le-mul_left}
+use Rattle.std.proofs.Common.{None, Some, refl, ℕ, ◌≤◌, ◌<◌, ◌≡◌, sym, ap, subst, ◌∙◌, Bool, true, false, List, mul-le-mul_left, arith, length, take, get_or-take, length-take-le}
 use native.Mathlib.Decide.{ℕ_discrete}
-use native.Mathlib.Omega.{arith}
-use lib.ListN.{length, take}
-use lib.Seq.{get_or-take, length-take-le}
+use lib.ListN.{get_or-append}
 use Rattle.deck.specs.Lists.{below}
 use Rattle.deck.specs.Assignments.{barred, entry_at, sum_of, least_assignment}
 use Rattle.deck.specs.Calls.{task_list}
 use Rattle.meaning.specs.Meaning.{◌at◌, Assignment}
 use Rattle.meaning.proofs.Lists.{sum_same, mem_below}
 use Rattle.prices.specs.Matching.{cost, AtMost, Tight}
-use Rattle.prices.specs.Weights.{heavy, weigh, place, merged, weights, merged_weights}
+use Rattle.prices.specs.Weights.{heavy, weigh, place, place_of, merged, weights, merged_weights}
 use Rattle.prices.specs.Square.{cell, copied}
 use Rattle.prices.proofs.Squares.{square_at}
 use Rattle.prices.proofs.Duality.{OnTight, tight_least}
 use Rattle.prices.proofs.First.{weigh_open, weigh_barred, light_unbarred, unbarred_cost, merged_none, merged_first}
 use Rattle.hungarian.specs.Solving.{Light, Solved}
-use Rattle.candidates.specs.declared.Candidate.{Candidate}
 use Rattle.tables.specs.Copies.{weight_of, Weighed}
 use Rattle.candidates.specs.Candidates.{candidate_for}
 use Rattle.tables.proofs.Places.{places_right}
@@ -39,7 +30,10 @@ weight_low : (merge : Bool) (i j e : ℕ) → i < 12 → j < 12 → e ≤ barred
 unfolding merged place
 weight_low false i j e li lj h = omega (arith, weigh_low e h)
 weight_low true i j e li lj h =
-    omega (arith, weigh_low e h, mul-le-mul_left j (places_right i li).1, lj)
+    omega (arith, weigh_low e h, mul-le-mul_left j place_low, lj)
+  where
+    place_low : place_of i ≤ 61917364224
+    place_low = rw (← (places_right i li).0) (places_right i li).1
 
 module _ (m : ℕ) (small : m ≤ 12) (merge : Bool) (t w : List ℕ) (W : Weighed m merge t w) where
   -- the weights can be added in pairs
@@ -65,7 +59,7 @@ module _ (m : ℕ) (small : m ≤ 12) (w u v task carrier : List ℕ) (S : Solve
   pub tasks_low : (i : ℕ) → i < m → task at i < 12
   tasks_low i li = omega (arith, S.matches.matched i li)
 
-  pub tasks_long : length task ≡ 12
+  tasks_long : length task ≡ 12
   tasks_long = S.sizes.2
 
   taken_at : (i : ℕ) → i < m → take m task at i ≡ task at i
@@ -93,13 +87,17 @@ module _ (m : ℕ) (small : m ≤ 12) (w u v task carrier : List ℕ) (S : Solve
   pub solved_least : (b : List ℕ) → Assignment m b → cost m (cell w) (take m task) ≤ cost m (cell w) b
   solved_least b k = tight_least m (cell w) (◌at◌ u) (◌at◌ v) S.matches.feasible (take m task) b solved_assignment solved_tight k
 
+  -- the list of 12
+  pub listed_at : (i : ℕ) → i < m → task_list (take m task) at i ≡ task at i
+  listed_at i li = get_or-append (take m task) _ 0 i (omega (arith, solved_assignment.as_many)) ∙ taken_at i li
+
   -- the sum of the weights that the code reckons
-  pub total_cost : (c : ℕ → ℕ → ℕ) → cost m c task ≡ cost m c (take m task)
-  total_cost c = sum_same _ _ (below m) (λ i n. ap (c i) (sym (taken_at i ((mem_below m).0 n))))
+  pub total_cost : (c : ℕ → ℕ → ℕ) → cost m c (task_list (take m task)) ≡ cost m c (take m task)
+  total_cost c = sum_same _ _ (below m) (λ i n. let li = (mem_below m).0 n in ap (c i) (listed_at i li ∙ sym (taken_at i li)))
 
 -- BY MERGED WEIGHTS
 module _ (m : ℕ) (small : m ≤ 12) (t w u v task carrier : List ℕ) (W : Weighed m true t w) (S : Solved m w m u v task carrier)
-    (s : ℕ) (sum_is_lem : s ≡ cost m (λ i j. weigh (cell t i j)) task) where
+    (s : ℕ) (sum_is_lem : s ≡ cost m (λ i j. weigh (cell t i j)) (task_list (take m task))) where
   abbrev table : List ℕ
   table = copied m t
 
@@ -129,12 +127,11 @@ module _ (m : ℕ) (small : m ≤ 12) (t w u v task carrier : List ℕ) (W : Wei
       (merged_first m small table words a A least l, weight_is ∙ unbarred_cost m small table words a (light_unbarred m small table words a A l))
 
 -- the answers
-pub candidate_none : (m : ℕ) (table : List ℕ) → least_assignment m table ≡ None
-    → ◌≡◌ {A = Candidate} (record { found = false; sum = 0; tasks = no_tasks }) (candidate_for m table (least_assignment m table))
+pub candidate_none : (m : ℕ) (table : List ℕ) → least_assignment m table ≡ None → candidate_for m table (least_assignment m table) ≡ None
 unfolding candidate_for
-candidate_none m table e = rw e
+candidate_none m table e = rw e refl
 
 pub candidate_some : (m : ℕ) (table a : List ℕ) (s : ℕ) (tasks : List ℕ) → least_assignment m table ≡ Some a → s ≡ sum_of m table a → tasks ≡ task_list a
-    → ◌≡◌ {A = Candidate} (record { found = true; sum = s; tasks = tasks }) (candidate_for m table (least_assignment m table))
+    → candidate_for m table (least_assignment m table) ≡ Some (record { sum = s; tasks = tasks })
 unfolding candidate_for
-candidate_some m table a s tasks e f g = rw (e, f, g)
+candidate_some m table a s tasks e f g = rw (e, f, g) refl

@@ -1,22 +1,17 @@
 -- The order of candidates as the code compares them is the order of assignments. Assumes nothing.
-use Prim.Native.Nat.{ℕ, zero, suc, ◌+◌, ◌-◌, ◌≤◌, ◌<◌, suc-le-suc, zero-le}
-use mathlib.Core.Path.{◌≡◌, refl, sym, ap, subst, ◌∙◌}
-use mathlib.Core.Logic.{◌⊎◌, inl, inr, ⊎_elim}
-use mathlib.Core.Bool.{Bool, true, false, cond}
-use mathlib.Core.List.{List, [], ◌∷◌}
-use Rattle.std.specs.Prelude.{Some}
-use native.Mathlib.Nat.{le_of_suc-le-suc, suc_inj}
-use native.Mathlib.Omega.{arith}
-use lib.ListN.{length, replicate, get_or-append, get_or-replicate}
-use lib.Seq.{get_or-append-add}
-use lib.Dec.{ltb}
-use borrow.Author.Tests.{lt-ltb, le-ltb}
+use Rattle.std.proofs.Common.{Option, Some, Ordering, eq-eqb, ne_eqb, ◌≢◌, ℕ, zero, suc, ◌+◌, ◌-◌, ◌≤◌, ◌<◌, suc-le-suc, zero-le, ◌≡◌, refl, sym, ap, subst, ◌∙◌, ◌⊎◌, inl, inr, ⊎_elim, Bool, true, false, cond, List, [], ◌∷◌, le_of_suc-le-suc, arith, length, replicate, get_or-append-add, ltb, lt-ltb, le-ltb}
+use native.Mathlib.Nat.{suc_inj}
+use lib.ListN.{get_or-append, get_or-replicate}
+use Rattle.std.specs.Ordering.{nat_cmp, is_lt, is_some_and, partial_lt, partial_ordering_then}
+use Rattle.std.specs.Cmp.Lexicographic.{slice_partial_cmp}
+use Rattle.candidates.specs.declared.Candidate.{Candidate}
+use Rattle.candidates.specs.contracts.CandidatePartialOrd.TheImpl.{partial_cmp-value}
 use Rattle.deck.specs.Assignments.{sum_of}
 use Rattle.deck.specs.Calls.{task_list}
 use Rattle.meaning.specs.Meaning.{◌at◌, StrictlyBefore, Less}
 use Rattle.meaning.proofs.Tests.{Says}
 use Rattle.prices.proofs.Growth.{lower}
-use Rattle.candidates.specs.Candidates.{less_from, earlier, candidate_for}
+use Rattle.candidates.specs.Candidates.{less_from, earlier, candidate_of}
 
 -- a comparison of two numbers, and of what follows where they are equal
 module _ (x y : ℕ) (b : Bool) where
@@ -77,30 +72,49 @@ back a k h l =
 
 -- THE ORDER OF CANDIDATES is that of their assignments
 pub says_earlier : (m : ℕ) (table a b : List ℕ) → m ≤ 12 → length a ≡ m → length b ≡ m
-    → Says (earlier (candidate_for m table (Some a)) (candidate_for m table (Some b))) (Less m table a b)
-unfolding candidate_for
+    → Says (earlier (candidate_of m table a) (candidate_of m table b)) (Less m table a b)
 says_earlier m table a b small la lb =
     says_then (sum_of m table a) (sum_of m table b) (less_from 12 0 (task_list a) (task_list b))
     (less_says 12 0 (task_list a) (task_list b) a b (la ∙ sym lb) (omega (arith, la)) (front a) (front b)
     (λ k g h. back a k (omega arith) (omega arith) ∙ sym (back b k (omega (arith, la, lb)) (omega arith))))
 
--- the loop, a number at a time
-module _ (a b : List ℕ) (n i : ℕ) where
-  pub less_yes : i < n → a at i < b at i → less_from (n - i) i a b ≡ true
-  unfolding less_from
-  less_yes h l = let e : n - i ≡ suc (n - (i + 1)) = omega arith in rw (e, lt-ltb (a at i) (b at i) l)
+-- THE DERIVED ORDER compares by sum, then list by list
+first_differ : (u v : ℕ) (rest : Option Ordering) (b : Bool) → is_some_and is_lt rest ≡ b
+    → is_some_and is_lt (partial_ordering_then (Some (nat_cmp u v)) rest) ≡ cond (ltb u v) true (cond (ltb v u) false b)
+first_differ u v rest b e = ⊎_elim less no_less (lower u v)
+  where
+    less : u < v → is_some_and is_lt (partial_ordering_then (Some (nat_cmp u v)) rest) ≡ cond (ltb u v) true (cond (ltb v u) false b)
+    less h = rw (lt-ltb u v h) refl
 
-  pub less_no : i < n → b at i ≤ a at i → b at i < a at i → less_from (n - i) i a b ≡ false
-  unfolding less_from
-  less_no h k l = let e : n - i ≡ suc (n - (i + 1)) = omega arith in rw (e, le-ltb (a at i) (b at i) k, lt-ltb (b at i) (a at i) l)
+    more : v ≤ u → v < u → is_some_and is_lt (partial_ordering_then (Some (nat_cmp u v)) rest) ≡ cond (ltb u v) true (cond (ltb v u) false b)
+    more h g = let n : u ≢ v = λ d. omega (arith, d) in rw (le-ltb u v h, ne_eqb u v n, lt-ltb v u g) refl
 
-  pub less_on : i < n → b at i ≤ a at i → a at i ≤ b at i → less_from (n - i) i a b ≡ less_from (n - (i + 1)) (i + 1) a b
-  unfolding less_from
-  less_on h k l =
-      let e : n - i ≡ suc (n - (i + 1)) = omega arith in
-      let f : suc i ≡ i + 1 = omega arith in
-      rw (e, le-ltb (a at i) (b at i) k, le-ltb (b at i) (a at i) l, f)
+    alike : v ≤ u → u ≤ v → is_some_and is_lt (partial_ordering_then (Some (nat_cmp u v)) rest) ≡ cond (ltb u v) true (cond (ltb v u) false b)
+    alike h g = rw (le-ltb u v h, eq-eqb u v (omega arith), le-ltb v u g) e
 
-  pub less_end : n ≤ i → less_from (n - i) i a b ≡ false
-  unfolding less_from
-  less_end h = let e : n - i ≡ 0 = omega arith in rw e
+    no_less : v ≤ u → is_some_and is_lt (partial_ordering_then (Some (nat_cmp u v)) rest) ≡ cond (ltb u v) true (cond (ltb v u) false b)
+    no_less h = ⊎_elim (more h) (alike h) (lower v u)
+
+pub lists_less : (n i : ℕ) (x y a b : List ℕ) → length a ≡ n → length b ≡ n → ((k : ℕ) → k < n → x at (i + k) ≡ a at k) → ((k : ℕ) → k < n → y at (i + k) ≡ b at k)
+    → is_some_and is_lt (slice_partial_cmp (λ u v. Some (nat_cmp u v)) a b) ≡ less_from n i x y
+unfolding less_from
+lists_less zero i x y [] [] e f p q = refl
+lists_less zero i x y [] (v ∷ b) e f p q = absurd (omega (arith, f))
+lists_less zero i x y (u ∷ a) b e f p q = absurd (omega (arith, e))
+lists_less (suc n) i x y [] b e f p q = absurd (omega (arith, e))
+lists_less (suc n) i x y (u ∷ a) [] e f p q = absurd (omega (arith, f))
+lists_less (suc n) i x y (u ∷ a) (v ∷ b) e f p q =
+    let z : i + 0 ≡ i = omega arith in
+    let pu : x at i ≡ u = subst (λ (k : ℕ). x at k ≡ u) z (p 0 (suc-le-suc zero-le)) in
+    let qv : y at i ≡ v = subst (λ (k : ℕ). y at k ≡ v) z (q 0 (suc-le-suc zero-le)) in
+    rw (pu, qv) (first_differ u v _ _ (lists_less n (suc i) x y a b (suc_inj e) (suc_inj f) (λ k l. shift x a u p k l) (λ k l. shift y b v q k l)))
+  where
+    shift : (x a : List ℕ) (u : ℕ) → ((k : ℕ) → k < suc n → x at (i + k) ≡ (u ∷ a) at k) → (k : ℕ) → k < n → x at (suc i + k) ≡ a at k
+    shift x a u p k h = let z : i + suc k ≡ suc i + k = omega arith in subst (λ (j : ℕ). x at j ≡ a at k) z (p (suc k) (suc-le-suc h))
+
+-- THE DERIVED ORDER IS `earlier`, so that of assignments
+pub derived_earlier : (s t : Candidate) → length s.tasks ≡ 12 → length t.tasks ≡ 12 → partial_lt partial_cmp-value.it s t ≡ earlier s t
+derived_earlier s t e f = first_differ s.sum t.sum _ _ (lists_less 12 0 s.tasks t.tasks s.tasks t.tasks e f (λ k l. at_front s.tasks k) (λ k l. at_front t.tasks k))
+  where
+    at_front : (l : List ℕ) (k : ℕ) → l at (0 + k) ≡ l at k
+    at_front l k = let z : 0 + k ≡ k = omega arith in ap (◌at◌ l) z

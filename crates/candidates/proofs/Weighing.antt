@@ -1,14 +1,10 @@
 -- Sums of weights carrier by carrier, and the list of 12. Assumes nothing.
-use Prim.Native.Nat.{ℕ, ◌+◌, ◌-◌, ◌≤◌, ◌<◌}
-use mathlib.Core.Path.{◌≡◌, refl, sym, ap, ◌∙◌}
-use mathlib.Core.Logic.{⊎_elim}
-use mathlib.Core.List.{List}
-use native.Mathlib.Nat.{eq-or-lt_of_le, le_of_suc-le-suc, not-suc-le-zero}
-use native.Mathlib.Numerals.{add-one}
-use native.Mathlib.Omega.{arith}
-use lib.ListN.{length, take, set, replicate, length-set, length-append, length-replicate, get_or-replicate, get_or-append}
-use lib.Seq.{ext_get_or, get_or-set_same, get_or-set_other, get_or-append-add, get_or-take, length-take-le}
+use Rattle.std.proofs.Common.{Option, None, Some, IsSome, rules, get_or, ℕ, ◌+◌, ◌-◌, ◌≤◌, ◌<◌, ◌≡◌, refl, sym, ap, ◌∙◌, ⊎_elim, List, eq-or-lt_of_le, le_of_suc-le-suc, not-suc-le-zero, add-one, arith, length, take, set, replicate, length-set, length-append, ext_get_or, get_or-set_same, get_or-set_other, get_or-append-add, get_or-take, length-take-le}
+use lib.ListN.{length-replicate, get_or-replicate, get_or-append}
 use Rattle.deck.specs.Calls.{task_list}
+use Rattle.deck.specs.declared.Task.{Task}
+use Rattle.hungarian.specs.Solving.{task_numbers}
+use Rattle.hungarian.proofs.Gains.{task_at}
 use Rattle.meaning.specs.Meaning.{◌at◌}
 use Rattle.prices.specs.Matching.{cost}
 use Rattle.prices.proofs.Sums.{sum_next}
@@ -18,6 +14,14 @@ pub cost_next : (c : ℕ → ℕ → ℕ) (a : List ℕ) (n s x : ℕ) → s ≡
 cost_next c a n s x e f =
     let z : 0 + n ≡ n = omega arith in
     rw (add-one n, sum_next (λ i. c i (a at i)) 0 n, z, e, f)
+
+-- a carrier whose task's number is below 12 has a task
+pub some_task : (l : List (Option Task)) (i : ℕ) → i < length l → task_numbers l at i < 12 → IsSome (get_or l i None)
+some_task l i h low = go (get_or l i None) refl
+  where
+    go : (o : Option Task) → get_or l i None ≡ o → IsSome o
+    go None e = absurd (omega (arith, task_at l i None h e, low))
+    go (Some j) e = search rules
 
 -- the first n tasks are listed, the others are 255
 pub record Listed (task : List ℕ) (n : ℕ) (tasks : List ℕ) : Type 0 where

@@ -1,18 +1,17 @@
 -- `candidates::total` meets its contract. Assumes nothing.
-use mathlib.Core.Path.{ap, ◌∙◌}
-use native.Mathlib.Omega.{arith}
+use Rattle.std.proofs.Common.{arith, ap, sym, ◌∙◌}
+use Rattle.std.proofs.lemmas.Option.{get_or_from_slice_get}
 use Rattle.prices.specs.Weights.{weigh}
 use Rattle.prices.specs.Square.{cell}
-use Rattle.hungarian.specs.Solving.{by_carrier}
 use Rattle.candidates.proofs.Weighing.{cost_next}
 use Rattle.candidates.proofs.total.Goals as goal
 
 pub loop-i-preserved : goal.loop-i-preserved
 loop-i-preserved c =
-    let l = c in
-    let a = l.args in
-    let e = c.entry.ensures ∙ ap (cell a.t.now l.loop-i.i) c.task_of-task.ensures in (
+    let a = c.args in
+    let l = c.loop-i in
+    let e = sym (get_or_from_slice_get a.t.now _ _ 0 c.entry.ensures) ∙ ap (cell a.t.now l.i) c.task_of.ensures.0 in (
       omega arith,
-      cost_next (λ i j. weigh (cell a.t.now i j)) (by_carrier a.pairs.now) l.loop-i.i _ _ l.loop-i.invariant.1 (c.weigh-x.ensures.0 ∙ ap weigh e),
-      omega (arith, c.weigh-x.ensures.2, l.loop-i.invariant.2),
+      cost_next (λ i j. weigh (cell a.t.now i j)) a.tasks.now l.i _ _ l.invariant.1 (c.weigh-sum.ensures.0 ∙ ap weigh e),
+      omega (arith, c.weigh-sum.ensures.2, l.invariant.2),
     )
