@@ -1,17 +1,10 @@
 -- What is packed is read back. Assumes nothing.
-use mathlib.Core.Path.{◌≡◌, refl, sym, ◌∙◌, ap}
-use mathlib.Core.Bool.{Bool, true, false, cond}
-use mathlib.Core.Logic.{inl, inr}
-use mathlib.Core.List.{List, [], ◌∷◌, ◌++◌}
-use Prim.Native.Nat.{ℕ, zero, suc, ◌+◌, ◌*◌, ◌-◌, ◌/◌, ◌%◌, ◌<◌, ◌≤◌, min}
-use native.Mathlib.Nat.{add-zero, sub-zero}
-use native.Mathlib.Numerals.{add-one}
+use Rattle.std.proofs.Common.{◌≡◌, refl, sym, ◌∙◌, ap, Bool, true, false, cond, inl, inr, List, [], ◌∷◌, ◌++◌, ℕ, zero, suc, ◌+◌, ◌*◌, ◌-◌, ◌/◌, ◌%◌, ◌<◌, ◌≤◌, min, add-zero, add-one, arith, eqb, length, get_or, length-append, ext_get_or, eqb-true}
+use native.Mathlib.Nat.{sub-zero}
 use native.Mathlib.Decide.{ℕ_discrete}
-use native.Mathlib.Omega.{arith}
-use lib.Dec.{eqb}
-use lib.ListN.{length, get_or, length-append, get_or-append}
-use lib.Seq.{ext_get_or, get_or_at}
-use borrow.Author.Tests.{eqb-true, eqb-false}
+use lib.ListN.{get_or-append}
+use lib.Seq.{get_or_at}
+use borrow.Author.Tests.{eqb-false}
 use Rattle.pack.specs.Pack.{tab, digit_of, moved_of, step_at, value, word_at, pack_of, shift, step_in, place_in, unpack_of, Step, Walk}
 
 pub length_tab : (f : ℕ → ℕ) (n : ℕ) → length (tab f n) ≡ n

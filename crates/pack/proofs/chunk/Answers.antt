@@ -1,29 +1,25 @@
--- `chunk` meets its contract: acc is the number of the digits from `left` on. Assumes nothing.
-use native.Mathlib.Omega.{arith}
-use mathlib.Core.Path.{◌≡◌}
-use Prim.Native.Nat.{◌+◌, ◌-◌}
+-- The word is the number of the digits from t on. Assumes nothing.
+use Rattle.std.proofs.Common.{◌≡◌, ◌+◌, ◌-◌, arith}
 use Rattle.pack.specs.Pack.{step_at, value}
 use Rattle.pack.proofs.Trips.{step_small}
 use Rattle.pack.proofs.Loops.{value_more, value_fits}
 use Rattle.pack.proofs.chunk.Goals as goal
 
-pub loop-left-init : goal.loop-left-init
+pub loop-t-init : goal.loop-t-init
 unfolding value
-loop-left-init c = let e : c.args.n - c.args.n ≡ 0 = omega arith in (omega arith, rw e)
+loop-t-init c = let none : c.args.from + c.args.n - (c.args.from + c.args.n) ≡ 0 = omega arith in record { above = omega arith; within = omega arith; digits = rw none }
 
-pub overflow_mul-acc : goal.overflow_mul-acc
-overflow_mul-acc c =
-    let args = c.args in
-    omega (arith, value_fits (step_at args.w args.path.now) (args.from + c.loop-left.left) (args.n - c.loop-left.left) (step_small args.w args.path.now) (omega arith))
+pub overflow_mul-word : goal.overflow_mul-word
+overflow_mul-word c =
+    omega (arith, value_fits (step_at c.args.w c.args.path.now) c.loop-t.t (c.args.from + c.args.n - c.loop-t.t) (step_small c.args.w c.args.path.now) (omega arith))
 
-pub overflow_add-acc : goal.overflow_add-acc
-overflow_add-acc c =
-    let args = c.args in
-    let loop = c.loop-left in
-    omega (arith, value_fits (step_at args.w args.path.now) (args.from + loop.left) (args.n - loop.left) (step_small args.w args.path.now) (omega arith), (step_small args.w args.path.now) (args.from + (loop.left - 1)), c.step.ensures)
+pub overflow_add-word : goal.overflow_add-word
+overflow_add-word c =
+    omega (arith, value_fits (step_at c.args.w c.args.path.now) c.loop-t.t (c.args.from + c.args.n - c.loop-t.t) (step_small c.args.w c.args.path.now) (omega arith), step_small c.args.w c.args.path.now (c.loop-t.t - 1), c.step.ensures)
 
-pub loop-left-preserved : goal.loop-left-preserved
-loop-left-preserved c =
-    let args = c.args in
-    let loop = c.loop-left in
-    (omega arith, rw (loop.invariant.1, c.step.ensures) (value_more (step_at args.w args.path.now) args.from loop.left args.n (omega arith) (omega arith)))
+pub loop-t-preserved : goal.loop-t-preserved
+loop-t-preserved c = record {
+  above = omega arith;
+  within = omega arith;
+  digits = value_more (step_at c.args.w c.args.path.now) c.loop-t.t (c.args.from + c.args.n) _ _ (omega arith) (omega arith) c.loop-t.invariant.digits c.step.ensures;
+}

@@ -1,11 +1,7 @@
--- `chunk` meets its contract: acc is the number of the digits from `left` on. Assumes nothing.
-use mathlib.Core.Path.{◌≡◌}
-use Prim.Native.Nat.{◌+◌, ◌-◌, ◌≤◌}
+-- The word is the number of the digits from t on. Assumes nothing.
+use Rattle.std.proofs.Common.{◌≡◌, ◌+◌, ◌-◌, ◌≤◌}
 use Rattle.pack.specs.Pack.{step_at, value}
 use Rattle.pack.proofs.chunk.Given as goal
 
-abbrev pub invariant-loop-left : goal.invariant-loop-left
-invariant-loop-left l = (l.left ≤ l.n) × (l.acc ≡ value (step_at l.w l.path) (l.from + l.left) (l.n - l.left))
-
-abbrev pub decreases-loop-left : goal.decreases-loop-left
-decreases-loop-left l = l.left
+abbrev pub invariant-loop-t : goal.invariant-loop-t
+invariant-loop-t l = record { above : l.from ≤ l.t; within : l.t ≤ l.from + l.n; digits : l.word ≡ value (step_at l.w l.path) l.t (l.from + l.n - l.t) }

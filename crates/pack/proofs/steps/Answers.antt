@@ -1,25 +1,24 @@
--- `steps` meets its contract: the first j places are written. Assumes nothing.
-use native.Mathlib.Omega.{arith}
-use mathlib.Core.Path.{refl, ◌∙◌}
-use Prim.Native.Nat.{ℕ, ◌+◌}
-use lib.ListN.{length-set}
-use Rattle.pack.specs.Pack.{moved_of, shift, place_from}
-use Rattle.pack.proofs.Loops.{tab_none, tab_more, low16, from_more, shift_more}
+-- The first places are written, and q is the last of them. Assumes nothing.
+use Rattle.std.proofs.Common.{◌%◌, refl, arith}
+use Rattle.pack.specs.Pack.{tab, moved_of, shift, place_from}
+use Rattle.pack.proofs.Loops.{tab_more, from_more, shift_more, differences_fit}
 use Rattle.pack.proofs.steps.Goals as goal
 
-pub loop-j-init : goal.loop-j-init
-unfolding place_from shift
-loop-j-init c = (omega arith, refl, refl, omega arith, refl, tab_none (λ (i : ℕ). place_from c.args.w c.args.p c.args.word (i + 1)) c.args.out.now)
+pub overflow_add-q : goal.overflow_add-q
+overflow_add-q c = omega (arith, differences_fit c.args.w (c.loop-place.rest % 5) c.requires.1)
 
-pub loop-j-preserved : goal.loop-j-preserved
+pub loop-place-init : goal.loop-place-init
+unfolding place_from shift tab
+loop-place-init c = record { place = refl; fits = c.requires.0; left = refl; written = refl }
+
+pub loop-place-preserved : goal.loop-place-preserved
 unfolding moved_of
-loop-j-preserved c =
-    let args = c.args in
-    let loop = c.loop-j in (
-      omega arith,
-      length-set loop.out loop.j _ ∙ loop.invariant.1,
-      (from_more args.w args.p args.word loop.j loop.q loop.rest loop.invariant.2 loop.invariant.4),
-      omega arith,
-      shift_more args.word loop.j loop.rest loop.invariant.4,
-      tab_more (λ (i : ℕ). place_from args.w args.p args.word (i + 1)) loop.out loop.j _ (omega arith) (low16 _ _ (omega arith) c.narrow.ensures ∙ (from_more args.w args.p args.word loop.j loop.q loop.rest loop.invariant.2 loop.invariant.4)) loop.invariant.5,
-    )
+loop-place-preserved c =
+    let s = c.loop-place.invariant in
+    let place = from_more c.args.w c.args.p c.args.word c.loop-place.place-index c.loop-place.q c.loop-place.rest s.place s.left in
+    record {
+      place = place;
+      fits = omega arith;
+      left = shift_more c.args.word c.loop-place.place-index c.loop-place.rest s.left;
+      written = tab_more _ c.loop-place.out c.loop-place.place-index _ (omega arith) place s.written;
+    }

@@ -1,35 +1,35 @@
--- `unpack` meets its contract: the places up to `at` are written, 13 for each word. Assumes nothing.
-use native.Mathlib.Omega.{arith}
-use mathlib.Core.Path.{refl, ◌∙◌}
-use Prim.Native.Nat.{◌+◌}
-use lib.ListN.{length-set}
-use Rattle.pack.specs.Pack.{place_in, unpack_of}
-use Rattle.pack.proofs.Loops.{tab_none, tab_more, tab_all, low16, stretch_place, stretch_more, length_lent, length_back}
+-- The places up to `at` are written, thirteen for each word. Assumes nothing.
+use Rattle.std.proofs.Common.{◌≡◌, ◌+◌, ◌*◌, ◌≤◌, length, refl, ◌∙◌, arith, length-take, length-set}
+use Rattle.std.proofs.lemmas.List.{get_or-take}
+use Rattle.std.proofs.lemmas.List.Edits.{length-between}
+use Rattle.std.specs.List.{between}
+use Rattle.pack.specs.Pack.{tab, place_in, unpack_of}
+use Rattle.pack.proofs.Loops.{tab_more, tab_all, stretch_place, stretch_more}
 use Rattle.pack.proofs.unpack.Goals as goal
 
-pub loop-at-init : goal.loop-at-init
-unfolding place_in
-loop-at-init c =
-    let args = c.args in
-    let pre = c.requires in
-    (omega arith, omega arith, length-set args.out.now 0 _ ∙ pre.4, refl, omega arith, tab_more (place_in args.w args.words.now args.start) args.out.now 0 _ (omega arith) (low16 _ _ (omega arith) c.narrow.ensures) (tab_none (place_in args.w args.words.now args.start) args.out.now))
+pub loop-word-init : goal.loop-word-init
+unfolding place_in tab
+loop-word-init c = record { reached = omega arith; place = refl; fits = omega arith; written = tab_more (place_in c.args.w c.args.words.now c.args.start) c.args.out.now 0 _ (omega arith) refl refl }
 
-pub loop-at-preserved : goal.loop-at-preserved
-loop-at-preserved c =
-    let args = c.args in
-    let loop = c.loop-at in
-    let steps-in = c.steps_in-n in
-    let stretch = c.stretch-p in (
-      omega (arith, steps-in.ensures),
-      omega (arith, steps-in.ensures),
-      length_back (loop.at + 1) steps-in.result stretch.new.out loop.out (stretch.auto.out ∙ (length_lent (loop.at + 1) steps-in.result loop.out (omega (arith, steps-in.ensures)))) (omega (arith, steps-in.ensures)) ∙ loop.invariant.2,
-      stretch_place args.w args.words.now args.start loop.k loop.at steps-in.result loop.p _ (omega arith) (omega (arith, steps-in.ensures)) loop.invariant.3 (length_lent (loop.at + 1) steps-in.result loop.out (omega (arith, steps-in.ensures))) _ stretch.ensures.0,
-      stretch.ensures.1,
-      stretch_more args.w args.words.now args.start loop.k loop.at steps-in.result loop.p _ (omega arith) (omega (arith, steps-in.ensures)) loop.invariant.3 (length_lent (loop.at + 1) steps-in.result loop.out (omega (arith, steps-in.ensures))) loop.out _ (omega (arith, steps-in.ensures)) stretch.ensures.2 loop.invariant.5,
-    )
+pub loop-word-preserved : goal.loop-word-preserved
+loop-word-preserved c =
+    let a = c.args in
+    let loop = c.loop-word in
+    let n = c.steps_in-n.result in
+    let few : n ≤ 13 = omega (arith, c.steps_in-n.ensures) in
+    let start : loop.at ≡ 13 * loop.word-index = omega (arith, loop.invariant.reached, c.loop-word-test.true, length-take c.div_ceil.result a.words.now) in
+    let size : length loop.out ≡ a.last + 1 = loop.auto.out ∙ length-set a.out.now 0 _ ∙ c.requires.4 in
+    let room : loop.at + 1 + n ≤ length loop.out = omega (arith, c.steps_in-n.ensures) in
+    let word = get_or-take c.div_ceil.result a.words.now loop.word-index 0 (omega (arith, c.loop-word-test.true, length-take c.div_ceil.result a.words.now)) in
+    let stretch = rw word at c.stretch-p.ensures in
+    let long : length (between (loop.at + 1) (loop.at + 1 + n) loop.out) ≡ n = length-between loop.out (loop.at + 1) (loop.at + 1 + n) room ∙ omega arith in
+    record {
+      reached = omega (arith, c.steps_in-n.ensures);
+      place = stretch_place a.w a.words.now a.start loop.word-index loop.at n loop.p _ start few loop.invariant.place long _ stretch.0;
+      fits = stretch.1;
+      written = stretch_more a.w a.words.now a.start loop.word-index loop.at n loop.p _ start few loop.invariant.place long loop.out _ room stretch.2 loop.invariant.written;
+    }
 
 pub returns : goal.returns
 unfolding unpack_of
-returns c =
-    let args = c.args in
-    tab_all (place_in args.w args.words.now args.start) _ (c.loop-at.at + 1) (args.last + 1) (omega arith) (omega arith) c.loop-at.invariant.5
+returns c = tab_all _ _ (c.loop-word.at + 1) (c.args.last + 1) (omega (arith, length-take c.div_ceil.result c.args.words.now)) (c.loop-word.auto.out ∙ length-set c.args.out.now 0 _ ∙ c.requires.4) c.loop-word.invariant.written
