@@ -1,12 +1,6 @@
 -- The frame: words put anew inside one field change that field of the cut list and no other. Assumes nothing.
-use mathlib.Core.Path.{◌≡◌, refl, sym, ◌∙◌, ap}
-use mathlib.Core.List.{List, [], ◌∷◌, ◌++◌, append_assoc}
-use Prim.Native.Nat.{ℕ, zero, suc, ◌+◌, ◌-◌, ◌<◌, ◌≤◌}
-use native.Mathlib.Nat.{add_assoc}
-use native.Mathlib.Omega.{arith}
-use native.Mathlib.Numerals.{add-one}
-use lib.ListN.{length, get_or, set, take, drop, length-drop, length-append}
-use lib.Seq.{take_at, drop_at, take-add, drop-drop, length-take-le, set_split, get_or-take, get_or-drop, take-nil, take-take, take-append-le, drop-append-le, take-append-add, drop-append-add}
+use Rattle.std.proofs.Common.{◌≡◌, refl, sym, ◌∙◌, ap, List, [], ◌∷◌, ◌++◌, append_assoc, ℕ, zero, suc, ◌+◌, ◌-◌, ◌<◌, ◌≤◌, add_assoc, arith, add-one, length, get_or, set, take, drop, length-drop, length-append, take_at, drop_at, take-add, drop-drop, length-take-le, get_or-take, get_or-drop, take-take}
+use lib.Seq.{set_split, take-nil, take-append-le, drop-append-le, take-append-add, drop-append-add}
 use Rattle.deck.specs.Lists.{sum}
 use Rattle.records.specs.Cut.{part, put, offset, cut}
 

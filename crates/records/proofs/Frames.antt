@@ -1,17 +1,9 @@
 -- What a write in one record leaves as it was, and where a field's words stand. Assumes nothing.
-use mathlib.Core.Path.{◌≡◌, refl, sym, ◌∙◌, ap}
-use mathlib.Core.Bool.{Bool, true, false}
-use mathlib.Core.List.{List, [], ◌∷◌}
-use Prim.Native.Nat.{ℕ, ◌+◌, ◌*◌, ◌-◌, ◌<◌, ◌≤◌}
-use native.Mathlib.Nat.{add-zero}
-use native.Mathlib.Omega.{arith}
-use lib.ListN.{length, get_or, set, take, drop}
-use lib.Dec.{ltb}
-use borrow.Author.Tests.{ltb-true, ltb-false}
-use lib.Seq.{take_all, get_or-drop, get_or-take, get_or-set_same, get_or-set_other}
+use Rattle.std.proofs.Common.{◌≡◌, refl, sym, ◌∙◌, ap, Bool, true, false, List, [], ◌∷◌, ℕ, ◌+◌, ◌*◌, ◌<◌, ◌≤◌, add-zero, arith, length, get_or, set, take, drop, ltb, ltb-true, ltb-false, get_or-drop, get_or-take, get_or-set_same, get_or-set_other}
 use Rattle.records.specs.Cut.{part, put, offset, cut}
-use Rattle.records.specs.Record.{layout, fields, fields_at, slot_in, key_at, with_key, Wrote}
-use Rattle.records.proofs.Cuts.{set_put, length_part, part_inside, part_here, part_behind, drop_before, part_before, offset_sum, cut_inside, cut_at, part_get, part_part}
+use Rattle.records.specs.Record.{layout, fields, fields_at, key_at, with_key, Wrote}
+use Rattle.records.proofs.Cuts.{set_put, length_part, part_inside, part_here, part_behind, drop_before, part_before, offset_sum, cut_inside, part_part}
+use Rattle.records.proofs.Fields.{length_of_field}
 
 -- another record, and a key, are not touched by words put into record n
 module _ (work ys : List ℕ) (n j k : ℕ) (e : length ys ≡ k) (b : j + k ≤ 512) (h : 512 * n + 512 ≤ length work) where
@@ -72,28 +64,10 @@ wrote_then a b c n g fs u v =
       keys = λ limit k l. v.keys limit k l ∙ u.keys limit k l;
     }
 
--- word j of field f
-pub read_word : (work : List ℕ) (n f j o : ℕ) → f < 10 → j < get_or layout f 0 → o ≡ 512 * n + (offset layout f + j)
-    → get_or work o 0 ≡ get_or (get_or (fields_at work n) f []) j 0
-unfolding fields_at fields
-read_word work n f j o g b q =
-    rw (q, cut_at layout f (part (512 * n) 512 work) g, part_get (offset layout f) (get_or layout f 0) j (part (512 * n) 512 work) b)
-    (sym (part_get (512 * n) 512 (offset layout f + j) work (omega (arith, offset_sum layout f))))
-
--- k words of field f from j on
-pub read_part : (work : List ℕ) (n f j k o : ℕ) → f < 10 → j + k ≤ get_or layout f 0 → o ≡ 512 * n + (offset layout f + j)
-    → part o k work ≡ part j k (get_or (fields_at work n) f [])
-unfolding fields_at fields
-read_part work n f j k o g b q =
-    rw (q, cut_at layout f (part (512 * n) 512 work) g, part_part (offset layout f) (get_or layout f 0) j k (part (512 * n) 512 work) b)
-    (sym (part_part (512 * n) 512 (offset layout f + j) k work (omega (arith, offset_sum layout f))))
-
 -- the length of field f
 pub length_field : (work : List ℕ) (n f : ℕ) → f < 10 → 512 * n + 512 ≤ length work → length (get_or (fields_at work n) f []) ≡ get_or layout f 0
-unfolding fields_at fields
-length_field work n f g h =
-    rw (cut_at layout f (part (512 * n) 512 work) g)
-    (length_part (offset layout f) (get_or layout f 0) (part (512 * n) 512 work) (omega (arith, offset_sum layout f, length_part (512 * n) 512 work h)))
+unfolding fields_at
+length_field work n f g h = length_of_field (part (512 * n) 512 work) refl (length_part (512 * n) 512 work h) f g
 
 -- KEYS
 pub key_same : (work : List ℕ) (limit n v : ℕ) → 512 * limit + n < length work → key_at limit (with_key limit n v work) n ≡ v
@@ -124,23 +98,3 @@ key_front a b limit k l e = sym (front a) ∙ ap (λ (t : List ℕ). get_or t (5
   where
     front : (w : List ℕ) → get_or (take (512 * limit + 4096) w) (512 * limit + k) 0 ≡ get_or w (512 * limit + k) 0
     front w = get_or-take (512 * limit + 4096) w (512 * limit + k) 0 (omega arith)
-
--- k words of field f from j on, lent as the part from o to e; and all of them
-pub lent_field : (work : List ℕ) (n f j k o e : ℕ) → f < 10 → j + k ≤ get_or layout f 0 → o ≡ 512 * n + (offset layout f + j) → e ≡ o + k
-    → part o (e - o) work ≡ part j k (get_or (fields_at work n) f [])
-lent_field work n f j k o e g b q r =
-    let d : e - o ≡ k = omega arith in
-    rw d (read_part work n f j k o g b q)
-
-pub whole_field : (work : List ℕ) (n f : ℕ) → f < 10 → 512 * n + 512 ≤ length work → part 0 (get_or layout f 0) (get_or (fields_at work n) f []) ≡ get_or (fields_at work n) f []
-whole_field work n f g h = take_all (get_or layout f 0) (get_or (fields_at work n) f []) (omega (arith, length_field work n f g h))
-
--- word k of slot j
-pub slot_word : (fs : List (List ℕ)) (j k o : ℕ) → k < 14 → o ≡ 14 * j + k → get_or (get_or fs 6 []) o 0 ≡ get_or (slot_in fs j) k 0
-slot_word fs j k o h e = rw e (sym (part_get (14 * j) 14 k (get_or fs 6 []) h))
-
--- field f, lent as the part from o to e
-pub lent_whole : (work : List ℕ) (n f o e : ℕ) → f < 10 → 512 * n + 512 ≤ length work → o ≡ 512 * n + offset layout f → e ≡ o + get_or layout f 0
-    → part o (e - o) work ≡ get_or (fields_at work n) f []
-lent_whole work n f o e g h q r =
-    lent_field work n f 0 (get_or layout f 0) o e g (omega arith) (omega arith) r ∙ whole_field work n f g h

@@ -1,4 +1,5 @@
 pub mod Cuts
+pub mod Fields
 pub mod Frames
 pub mod Words
 pub mod Writes

@@ -1,21 +1,16 @@
 -- What each writer leaves in the workspace, from what its calls and stores leave. Assumes nothing.
-use mathlib.Core.Path.{◌≡◌, refl, sym, ◌∙◌, ap}
-use mathlib.Core.List.{List, [], ◌∷◌, append-nil, append_assoc}
-use Prim.Native.Nat.{ℕ, ◌+◌, ◌*◌, ◌-◌, ◌<◌, ◌≤◌, ◌%◌}
-use native.Mathlib.Nat.{mod-eq_of_lt, add-zero}
-use native.Mathlib.Numerals.{add-one}
-use native.Mathlib.Omega.{arith}
-use lib.ListN.{length, get_or, set, take, drop, replicate, length-set, length-drop, drop_of_length-le, get_or-append, length-replicate}
-use lib.Seq.{paste, paste-zero, paste-suc, get_or-take, get_or-drop, get_or-set_other, length-take-le, drop-drop}
+use Rattle.std.proofs.Common.{◌≡◌, refl, sym, ◌∙◌, ap, List, [], ◌∷◌, append-nil, append_assoc, ℕ, ◌+◌, ◌*◌, ◌-◌, ◌<◌, ◌≤◌, add-zero, arith, length, get_or, set, take, drop, replicate, length-set, drop_of_length-le, get_or-set_other, drop-drop}
+use lib.ListN.{length-replicate}
+use lib.Seq.{paste}
 use Rattle.deck.specs.declared.Constraint.{Constraint}
 use Rattle.records.specs.Cut.{part, put, offset, cut}
-use Rattle.records.specs.Record.{layout, fields, fields_at, words_of, with_path, with_slot, slot_in, root_fields, Wrote}
-use Rattle.records.proofs.Cuts.{set_put, length_part, length_put, cut_at, cut_inside, offset_sum}
-use Rattle.records.proofs.Frames.{wrote, wrote_word, wrote_record, wrote_then, length_field, lent_field}
+use Rattle.records.specs.Record.{layout, fields, fields_at, words_of, with_path, with_slot, slot_in, slot_words, root_fields, Wrote}
+use Rattle.records.specs.declared.Slot.{Slot}
+use Rattle.std.specs.Prelude.{Option}
+use Rattle.records.proofs.Cuts.{set_put, length_part, length_put, part_lent, part_part, cut_inside, offset_sum}
+use Rattle.records.proofs.Frames.{wrote, wrote_word, wrote_record, wrote_then, length_field}
+use Rattle.records.proofs.Fields.{length_of_field, field_part}
 use Rattle.records.proofs.Words.{length_words}
-
-pub fits_word : (x r : ℕ) → x < 4294967296 → r ≡ x % 4294967296 → r ≡ x
-fits_word x r h e = e ∙ mod-eq_of_lt h
 
 -- all of a list put anew
 put_whole : (k : ℕ) (ys xs : List ℕ) → length xs ≤ k → put 0 k ys xs ≡ ys
@@ -38,84 +33,68 @@ wrote_whole work ys n f o e g l h q r =
     rw d (rw (put_whole (get_or layout f 0) ys (get_or (fields_at work n) f []) (omega (arith, length_field work n f g h))) at w)
 
 -- field f, of one word, stored
-wrote_one : (work : List ℕ) (n f v o : ℕ) → f < 10 → get_or layout f 0 ≡ 1 → 512 * n + 512 ≤ length work → o ≡ 512 * n + offset layout f
+pub wrote_one : (work : List ℕ) (n f v o : ℕ) → f < 10 → get_or layout f 0 ≡ 1 → 512 * n + 512 ≤ length work → o ≡ 512 * n + offset layout f
     → Wrote work (set work o v) n (set (fields_at work n) f (v ∷ []))
 wrote_one work n f v o g l h q =
     rw (put_whole 1 (v ∷ []) (get_or (fields_at work n) f []) (omega (arith, length_field work n f g h)))
     at (wrote_word work n f 0 v o g (omega arith) h (omega arith))
 
 -- the link and the constraint
-pub head_wrote : (work ys : List ℕ) (n link v : ℕ) (c : Constraint) → 512 * n + 512 ≤ length work → link < 4294967296 → v ≡ link % 4294967296 → ys ≡ words_of c
-    → Wrote work (put (512 * n + 1) (512 * n + 6 - (512 * n + 1)) ys (set work (512 * n) v)) n (set (set (fields_at work n) 0 (link ∷ [])) 1 (words_of c))
-head_wrote work ys n link v c h b e s =
-    rw (fits_word link v b e, s)
+pub origin_wrote : (work ys : List ℕ) (n link : ℕ) (c : Constraint) → 512 * n + 512 ≤ length work → ys ≡ words_of c
+    → Wrote work (put (512 * n + 1) (512 * n + 1 + 5 - (512 * n + 1)) ys (set work (512 * n) link)) n (set (set (fields_at work n) 0 (link ∷ [])) 1 (words_of c))
+origin_wrote work ys n link c h s =
+    rw s
     (wrote_then work (set work (512 * n) link) _ n (λ fs. set fs 1 (words_of c)) (set (fields_at work n) 0 (link ∷ []))
     (wrote_one work n 0 link (512 * n) (omega arith) refl h (omega arith))
-    (wrote_whole (set work (512 * n) link) (words_of c) n 1 (512 * n + 1) (512 * n + 6) (omega arith) (length_words c) (rw (length-set work (512 * n) link) h) (omega arith) (omega arith)))
-
--- the word of the tournament
-pub tournament_wrote : (work : List ℕ) (n x v : ℕ) → 512 * n + 512 ≤ length work → x < 4294967296 → v ≡ x % 4294967296
-    → Wrote work (set work (512 * n + 31) v) n (set (fields_at work n) 5 (x ∷ []))
-tournament_wrote work n x v h b e = rw (fits_word x v b e) (wrote_one work n 5 x (512 * n + 31) (omega arith) refl h (omega arith))
+    (wrote_whole (set work (512 * n) link) (words_of c) n 1 (512 * n + 1) (512 * n + 1 + 5) (omega arith) (length_words c) (rw (length-set work (512 * n) link) h) (omega arith) (omega arith)))
 
 -- the finish and the packed path
-pub path_wrote : (work ys : List ℕ) (n i finish v : ℕ) (packed : List ℕ) → 512 * n + 512 ≤ length work → i < 12 → finish < 4294967296 → v ≡ finish % 4294967296 → length packed ≡ 20 → ys ≡ packed
-    → Wrote work (put (512 * n + (200 + 20 * i)) (512 * n + (200 + 20 * i) + 20 - (512 * n + (200 + 20 * i))) ys (set work (512 * n + (18 + i)) v)) n (with_path (fields_at work n) i finish packed)
-path_wrote work ys n i finish v packed h b l e s q =
+pub path_wrote : (work ys : List ℕ) (n i finish : ℕ) (packed : List ℕ) → 512 * n + 512 ≤ length work → i < 12 → length packed ≡ 20 → ys ≡ packed
+    → Wrote work (put (512 * n + (200 + 20 * i)) (512 * n + (200 + 20 * i) + 20 - (512 * n + (200 + 20 * i))) ys (set work (512 * n + (18 + i)) finish)) n (with_path (fields_at work n) i finish packed)
+path_wrote work ys n i finish packed h b s q =
     let d : 512 * n + (200 + 20 * i) + 20 - (512 * n + (200 + 20 * i)) ≡ 20 = omega arith in
     let w : List ℕ = set work (512 * n + (18 + i)) finish in
     let z : length w ≡ length work = length-set work (512 * n + (18 + i)) finish in
     let x : List ℕ = put i 1 (finish ∷ []) (get_or (fields_at work n) 3 []) in
     let y : get_or (set (fields_at work n) 3 x) 7 [] ≡ get_or (fields_at work n) 7 [] = get_or-set_other (fields_at work n) 3 7 x [] (λ u. omega arith) in
-    rw (fits_word finish v l e, q, d, set_put (get_or (fields_at work n) 3 []) i finish (omega (arith, length_field work n 3 (omega arith) h)), ← y)
+    rw (q, d, set_put (get_or (fields_at work n) 3 []) i finish (omega (arith, length_field work n 3 (omega arith) h)), ← y)
     (wrote_then work w _ n (λ fs. set fs 7 (put (20 * i) 20 packed (get_or fs 7 []))) (set (fields_at work n) 3 (put i 1 (finish ∷ []) (get_or (fields_at work n) 3 [])))
     (wrote_word work n 3 i finish (512 * n + (18 + i)) (omega arith) (omega arith) h refl)
     (wrote w packed n 7 (20 * i) 20 (512 * n + (200 + 20 * i)) (omega arith) (omega arith) s (omega arith) refl))
 
--- a slot
-pub slot_wrote : (work ys : List ℕ) (n j : ℕ) (slot : List ℕ) → 512 * n + 512 ≤ length work → j < 12 → length ys ≡ 14 → ys ≡ slot
-    → Wrote work (put (512 * n + (32 + 14 * j)) (512 * n + (32 + 14 * j) + 14 - (512 * n + (32 + 14 * j))) ys work) n (with_slot (fields_at work n) j slot)
-slot_wrote work ys n j slot h b l q =
-    let d : 512 * n + (32 + 14 * j) + 14 - (512 * n + (32 + 14 * j)) ≡ 14 = omega arith in
-    rw (d, ← q)
-    (wrote work ys n 6 (14 * j) 14 (512 * n + (32 + 14 * j)) (omega arith) (omega arith) l h refl)
-
 -- the words of slot j as they were lent
-pub slot_lent : (work : List ℕ) (n j : ℕ) → j < 12 → part (512 * n + (32 + 14 * j)) (512 * n + (32 + 14 * j) + 14 - (512 * n + (32 + 14 * j))) work ≡ slot_in (fields_at work n) j
-slot_lent work n j b = lent_field work n 6 (14 * j) 14 (512 * n + (32 + 14 * j)) (512 * n + (32 + 14 * j) + 14) (omega arith) (omega arith) refl refl
+slot_lent : (work : List ℕ) (n j : ℕ) → j < 12 → part (512 * n + (32 + 14 * j)) (512 * n + (32 + 14 * j) + 14 - (512 * n + (32 + 14 * j))) work ≡ slot_in (fields_at work n) j
+unfolding fields_at
+slot_lent work n j b =
+    part_lent (512 * n + (32 + 14 * j)) 14 work
+    ∙ sym (part_part (512 * n) 512 (32 + 14 * j) 14 work (omega arith))
+    ∙ field_part (part (512 * n) 512 work) refl 6 (14 * j) 14 (32 + 14 * j) (omega arith) (omega arith) refl
+
+-- a slot that is filled or emptied
+pub slot_wrote : (work ys : List ℕ) (n j : ℕ) (slot : Option Slot) → 512 * n + 512 ≤ length work → j < 12
+    → length ys ≡ length (part (512 * n + (32 + 14 * j)) (512 * n + (32 + 14 * j) + 14 - (512 * n + (32 + 14 * j))) work)
+    → ys ≡ slot_words slot (part (512 * n + (32 + 14 * j)) (512 * n + (32 + 14 * j) + 14 - (512 * n + (32 + 14 * j))) work)
+    → Wrote work (put (512 * n + (32 + 14 * j)) (512 * n + (32 + 14 * j) + 14 - (512 * n + (32 + 14 * j))) ys work) n (with_slot (fields_at work n) j (slot_words slot (slot_in (fields_at work n) j)))
+slot_wrote work ys n j slot h b l q =
+    let o : ℕ = 512 * n + (32 + 14 * j) in
+    let d : 512 * n + (32 + 14 * j) + 14 - (512 * n + (32 + 14 * j)) ≡ 14 = omega arith in
+    let z : length ys ≡ 14 = lent_size o (o + 14) ys work (omega arith) (omega arith) l ∙ d in
+    rw (d, ← slot_lent work n j b, ← q)
+    (wrote work ys n 6 (14 * j) 14 (512 * n + (32 + 14 * j)) (omega arith) (omega arith) z h refl)
 
 -- two stores and twelve words over a slot
-pub slot_filled : (s ys tasks : List ℕ) (a b v : ℕ) → length s ≡ 14 → ys ≡ tasks → v ≡ b → put 2 (14 - 2) ys (set (set s 0 a) 1 v) ≡ a ∷ b ∷ tasks
-slot_filled (x ∷ y ∷ s) ys tasks a b v l e q = rw (e, q, drop_of_length-le s {i = 12} (omega arith), append-nil)
-slot_filled [] ys tasks a b v l e q = absurd (omega arith)
-slot_filled (x ∷ []) ys tasks a b v l e q = absurd (omega arith)
+pub slot_filled : (s ys tasks : List ℕ) (a b : ℕ) → length s ≡ 14 → ys ≡ tasks → put 2 12 ys (set (set s 0 a) 1 b) ≡ a ∷ b ∷ tasks
+slot_filled (x ∷ y ∷ s) ys tasks a b l e = rw (e, drop_of_length-le s {i = 12} (omega arith), append-nil)
+slot_filled [] ys tasks a b l e = absurd (omega arith)
+slot_filled (x ∷ []) ys tasks a b l e = absurd (omega arith)
 
--- a record copied from the words of an earlier one, word by word
-unfoldable pub copied : List ℕ → ℕ → ℕ → ℕ → List ℕ
-copied work from to j = paste work (512 * to) (drop (512 * from) work) j
-
-pub copied_none : (work : List ℕ) (from to : ℕ) → work ≡ copied work from to 0
-unfolding copied
-copied_none work from to = paste-zero work (512 * to) (drop (512 * from) work)
-
-module _ (work : List ℕ) (from to j : ℕ) (l : from < to) (b : j < 512) (h : 512 * to + 512 ≤ length work) where
-  copied_read : get_or (copied work from to j) (512 * from + j) 0 ≡ get_or work (512 * from + j) 0
-  unfolding copied
-  copied_read =
-      rw (append_assoc (take (512 * to) work) (take j (drop (512 * from) work)) (drop (512 * to + j) work))
-      (get_or-append (take (512 * to) work) _ 0 (512 * from + j) (omega (arith, length-take-le (512 * to) work (omega arith)))
-      ∙ get_or-take (512 * to) work (512 * from + j) 0 (omega arith))
-
-  pub copied_more : (w : List ℕ) → w ≡ copied work from to j → set w (512 * to + j) (get_or w (512 * from + j) 0) ≡ copied work from to (j + 1)
-  unfolding copied
-  copied_more w e =
-      rw (e, copied_read, ← get_or-drop (512 * from) work j 0, add-one j)
-      (paste-suc work (512 * to) (drop (512 * from) work) j 0 (omega arith) (omega (arith, length-drop (512 * from) work)))
-
-pub copy_wrote : (work w : List ℕ) (from to j : ℕ) → from < to → j ≡ 512 → 512 * to + 512 ≤ length work → w ≡ copied work from to j → Wrote work w to (fields_at work from)
-unfolding copied fields_at
-copy_wrote work w from to j l b h e =
-    rw (e, b, append_assoc (take (512 * to) work) (take 512 (drop (512 * from) work)) (drop (512 * to + 512) work), ← drop-drop 512 (512 * to) work)
+-- an earlier record copied
+pub copy_wrote : (work w : List ℕ) (from to : ℕ) → from < to → 512 * to + 512 ≤ length work → w ≡ paste work (512 * to) (drop (512 * from) work) (512 * from + 512 - 512 * from)
+    → Wrote work w to (fields_at work from)
+unfolding fields_at
+copy_wrote work w from to l h e =
+    let d : 512 * from + 512 - 512 * from ≡ 512 = omega arith in
+    rw (e, d, append_assoc (take (512 * to) work) (take 512 (drop (512 * from) work)) (drop (512 * to + 512) work), ← drop-drop 512 (512 * to) work)
     (wrote_record work (part (512 * from) 512 work) to (length_part (512 * from) 512 work (omega arith)) h)
 
 -- A ROOT'S RECORD
@@ -126,11 +105,8 @@ fields_whole rec ys f o e g l s q r =
     let d : e - o ≡ get_or layout f 0 = omega arith in
     let z : offset layout f + 0 ≡ offset layout f = add-zero (offset layout f) in
     rw (d, q)
-    (rw (z, put_whole (get_or layout f 0) ys (get_or (cut layout rec) f []) (omega (arith, length_cut)))
+    (rw (z, put_whole (get_or layout f 0) ys (get_or (cut layout rec) f []) (omega (arith, length_of_field rec refl l f g)))
     at (cut_inside layout f 0 (get_or layout f 0) ys rec g (omega arith) s (omega arith)))
-  where
-    length_cut : length (get_or (cut layout rec) f []) ≡ get_or layout f 0
-    length_cut = rw (cut_at layout f rec g) (length_part (offset layout f) (get_or layout f 0) rec (omega (arith, offset_sum layout f)))
 
 fields_one : (rec : List ℕ) (f o v : ℕ) → f < 10 → get_or layout f 0 ≡ 1 → length rec ≡ 512 → o ≡ offset layout f → fields (set rec o v) ≡ set (fields rec) f (v ∷ [])
 fields_one rec f o v g s l q =
@@ -142,16 +118,16 @@ blank_root : (tasks : List ℕ) (row : ℕ) (closed : List ℕ) → set (set (se
 unfolding fields root_fields
 blank_root tasks row closed = refl
 
-pub root_record : (rec ys zs tasks closed : List ℕ) (row a : ℕ) → rec ≡ replicate 512 0 → ys ≡ tasks → zs ≡ closed → length tasks ≡ 12 → length closed ≡ 12
-    → row < 4294967296 → a ≡ row % 4294967296 → fields (set (put 440 (452 - 440) zs (put 6 (18 - 6) ys rec)) 30 a) ≡ root_fields tasks row closed
-root_record rec ys zs tasks closed row a e y x s t p f =
+pub root_record : (rec ys zs tasks closed : List ℕ) (row : ℕ) → rec ≡ replicate 512 0 → ys ≡ tasks → zs ≡ closed → length tasks ≡ 12 → length closed ≡ 12
+    → fields (set (put 440 12 zs (put 6 12 ys rec)) 30 row) ≡ root_fields tasks row closed
+root_record rec ys zs tasks closed row e y x s t =
     let z : List ℕ = replicate 512 0 in
     let k : length z ≡ 512 = length-replicate {A = ℕ} 512 0 in
-    let r1 : List ℕ = put 6 (18 - 6) tasks z in
-    let k1 : length r1 ≡ 512 = length_put 6 (18 - 6) tasks z s (omega arith) ∙ k in
-    let r2 : List ℕ = put 440 (452 - 440) closed r1 in
-    let k2 : length r2 ≡ 512 = length_put 440 (452 - 440) closed r1 t (omega arith) ∙ k1 in
-    rw (e, y, x, fits_word row a p f)
+    let r1 : List ℕ = put 6 12 tasks z in
+    let k1 : length r1 ≡ 512 = length_put 6 12 tasks z s (omega arith) ∙ k in
+    let r2 : List ℕ = put 440 12 closed r1 in
+    let k2 : length r2 ≡ 512 = length_put 440 12 closed r1 t (omega arith) ∙ k1 in
+    rw (e, y, x)
     (fields_one r2 4 30 row (omega arith) refl k2 refl
     ∙ ap (λ (l : List (List ℕ)). set l 4 (row ∷ [])) (fields_whole r1 closed 8 440 452 (omega arith) k1 t refl refl)
     ∙ ap (λ (l : List (List ℕ)). set (set l 8 closed) 4 (row ∷ [])) (fields_whole z tasks 2 6 18 (omega arith) k s refl refl)

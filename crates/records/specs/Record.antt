@@ -1,11 +1,12 @@
 -- The record of a node, 512 words of the workspace, as a list of fields. Assumes nothing.
-use Rattle.std.specs.Prelude.{ℕ, ◌+◌, ◌*◌, ◌<◌, ◌%◌, ◌≡◌, Bool, List, [], ◌∷◌, map, get_or, set, replicate, eqb}
+use Rattle.std.specs.Prelude.{ℕ, ◌+◌, ◌*◌, ◌<◌, ◌≤◌, ◌%◌, ◌≡◌, zero, suc, Bool, cond, Option, None, Some, List, [], ◌∷◌, map, get_or, set, replicate, eqb, length}
 use Rattle.deck.specs.Sheet.{carrier}
 use Rattle.deck.specs.Calls.{constraint_of}
 use Rattle.deck.specs.declared.Constraint.{Constraint}
 use Rattle.deck.specs.declared.Constraint.TheVariants.{Place, Move}
 use Rattle.records.specs.Cut.{part, put, cut}
-use Rattle.records.specs.declared.NodeHead.{NodeHead}
+use Rattle.records.specs.declared.Origin.{Origin}
+use Rattle.records.specs.declared.Slot.{Slot}
 
 -- 0 the link: 0 for a root, else parent + 1; 1 to 5 the constraint; 6 to 17 the tasks; 18 to 29 the finishes; 30 of a root: the row
 -- of its part of the assignments; 31 of a number up to the latest root: the word of the tournament of the slots; 32 to 199 of a
@@ -20,6 +21,10 @@ fields rec = cut layout rec
 -- the fields of the record of node n
 unfoldable pub fields_at : List ℕ → ℕ → List (List ℕ)
 fields_at work n = fields (part (512 * n) 512 work)
+
+-- the workspace has the record of node n
+abbrev pub HasRecord : List ℕ → ℕ → Type 0
+HasRecord work n = 512 * n + 512 ≤ length work
 
 abbrev pub link_in : List (List ℕ) → ℕ
 link_in fs = get_or (get_or fs 0 []) 0 0
@@ -44,8 +49,13 @@ Small (Move a u v t) = (a.0 < 65536) × (u < 65536) × (v < 65536) × (t < 65536
 abbrev pub own_in : List (List ℕ) → Constraint
 own_in fs = constraint_in (get_or fs 1 [])
 
-abbrev pub head_in : List (List ℕ) → NodeHead
-head_in fs = record { link = link_in fs; constraint = own_in fs }
+-- a root, of link 0, has no parent
+abbrev pub origin_of : ℕ → Constraint → Option Origin
+origin_of zero c = None
+origin_of (suc p) c = Some (record { parent = p; constraint = c })
+
+abbrev pub origin_in : List (List ℕ) → Option Origin
+origin_in fs = origin_of (link_in fs) (own_in fs)
 
 abbrev pub tasks_in : List (List ℕ) → List ℕ
 tasks_in fs = get_or fs 2 []
@@ -83,6 +93,15 @@ closed_in fs = get_or fs 8 []
 -- words as bytes
 abbrev pub bytes : List ℕ → List ℕ
 bytes l = map (λ x. x % 256) l
+
+-- an assignment stands in slot j where its flag is 1
+abbrev pub slot_at : List (List ℕ) → ℕ → Option Slot
+slot_at fs j = cond (eqb (flag_in fs j) 1) (Some (record { sum = sum_in fs j; tasks = bytes (slot_tasks_in fs j) })) None
+
+-- the words of a slot that is filled or emptied; `old` are its words before
+abbrev pub slot_words : Option Slot → List ℕ → List ℕ
+slot_words None old = set old 0 0
+slot_words (Some s) old = 1 ∷ s.sum ∷ s.tasks
 
 -- the fields with another finish and another packed path of carrier i
 abbrev pub with_path : List (List ℕ) → ℕ → ℕ → List ℕ → List (List ℕ)

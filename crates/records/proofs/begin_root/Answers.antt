@@ -1,14 +1,9 @@
--- `begin_root` meets its contract: the whole record. Assumes nothing.
-use native.Mathlib.Omega.{arith}
-use mathlib.Core.Path.{◌∙◌}
-use Prim.Native.Nat.{◌+◌, ◌*◌}
+-- A whole record. Assumes nothing.
+use Rattle.std.proofs.Common.{◌∙◌, ◌*◌, ◌+◌, arith}
 use Rattle.records.proofs.Writes.{lent_size, root_wrote}
 use Rattle.records.proofs.begin_root.Goals as goal
 
 pub returns : goal.returns
 returns c =
-    let args = c.args in
-    let root_record = c.root_record in
-    root_wrote args.work.now _ args.n _ (omega arith)
-    (lent_size (512 * args.n) (512 * args.n + 512) root_record.new.rec args.work.now (omega arith) (omega arith) root_record.auto.rec ∙ omega arith)
-    root_record.ensures
+    root_wrote c.args.work.now _ c.args.n _ c.requires.0
+    (lent_size (512 * c.args.n) (512 * c.args.n + 512) _ c.args.work.now (omega arith) c.requires.0 c.root_record.auto.words ∙ omega arith) c.root_record.ensures

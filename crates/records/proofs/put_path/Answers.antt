@@ -1,13 +1,9 @@
--- `put_path` meets its contract: a word of the finishes and twenty words of the paths. Assumes nothing.
-use native.Mathlib.Omega.{arith}
+-- A word of the finishes and twenty words of the paths. Assumes nothing.
 use Rattle.pack.proofs.Trips.{length_pack}
 use Rattle.records.proofs.Writes.{path_wrote}
 use Rattle.records.proofs.put_path.Goals as goal
 
 pub returns : goal.returns
 returns c =
-    let args = c.args in
-    let pre = c.requires in
-    let word = c.word in
-    let pack = c.pack in
-    path_wrote args.work.now _ args.n args.i.0 args.finish _ _ (omega arith) (omega arith) pre.2 word.ensures (length_pack args.w args.last args.path.now) pack.ensures
+    let a = c.args in
+    path_wrote a.work.now _ a.n a.i.0 a.finish _ c.requires.0 c.requires.1 (length_pack a.w a.last a.path.now) c.pack.ensures

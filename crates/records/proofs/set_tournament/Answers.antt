@@ -1,9 +1,7 @@
--- `set_tournament` meets its contract: word 31 of the record. Assumes nothing.
-use Rattle.records.proofs.Writes.{tournament_wrote}
+-- Word 31 of the record. Assumes nothing.
+use Rattle.std.proofs.Common.{◌+◌, ◌*◌, refl, arith}
+use Rattle.records.proofs.Writes.{wrote_one}
 use Rattle.records.proofs.set_tournament.Goals as goal
 
 pub returns : goal.returns
-returns c =
-    let args = c.args in
-    let pre = c.requires in
-    tournament_wrote args.work.now args.n args.v _ pre.0 pre.1 c.word.ensures
+returns c = wrote_one c.args.work.now c.args.n 5 c.args.v (512 * c.args.n + 31) (omega arith) refl c.requires.0 (omega arith)
