@@ -1,15 +1,7 @@
 -- The least keys of the blocks of nodes: none made, one node more, a node closed, nodes that keep their keys. Assumes nothing.
-use mathlib.Core.Path.{◌≡◌, refl, sym, ◌∙◌}
-use mathlib.Core.Logic.{◌⊎◌, inl, inr, ⊎_elim}
-use mathlib.Core.Bool.{Bool, true, false}
-use mathlib.Core.List.{List}
-use Prim.Native.Nat.{ℕ, ◌+◌, ◌*◌, ◌-◌, ◌/◌, ◌<◌, ◌≤◌, min}
+use Rattle.std.proofs.Common.{◌≡◌, refl, sym, ◌∙◌, ◌⊎◌, inl, inr, ⊎_elim, Bool, true, false, List, ℕ, ◌+◌, ◌*◌, ◌-◌, ◌/◌, ◌<◌, ◌≤◌, min, arith, ltb, length, get_or, set, replicate, length-set, get_or-set_same, get_or-set_other, ltb-true, ltb-false}
 use native.Mathlib.Decide.{ℕ_discrete}
-use native.Mathlib.Omega.{arith}
-use lib.Dec.{ltb}
-use lib.ListN.{length, get_or, set, replicate, length-set, length-replicate, get_or-replicate}
-use lib.Seq.{get_or-set_same, get_or-set_other}
-use borrow.Author.Tests.{ltb-true, ltb-false}
+use lib.ListN.{length-replicate, get_or-replicate}
 use Rattle.records.specs.Cut.{part}
 use Rattle.records.specs.Record.{key_at, closed_key, with_key}
 use Rattle.records.proofs.Cuts.{length_part, part_get}
@@ -17,19 +9,16 @@ use Rattle.records.proofs.Frames.{key_other}
 use Rattle.nodes.specs.Nodes.{LeastTo, FirstOf, LeastIn, FirstIn, block_end, Lows}
 
 -- THE KEYS OF THE NODES from..until, as a part of the workspace
-module _ (limit : ℕ) (work keys : List ℕ) (from until : ℕ) (e : keys ≡ part (512 * limit + from) (512 * limit + until - (512 * limit + from)) work) (o : from ≤ until)
+module _ (limit : ℕ) (work keys : List ℕ) (from until : ℕ) (e : keys ≡ part (512 * limit + from) (until - from) work) (o : from ≤ until)
     (h : 512 * limit + until ≤ length work) where
   size : length keys ≡ until - from
-  size =
-      let q : 512 * limit + until - (512 * limit + from) ≡ until - from = omega arith in
-      rw (e, q) (length_part (512 * limit + from) (until - from) work (omega arith))
+  size = rw e (length_part (512 * limit + from) (until - from) work (omega arith))
 
-  key : (k : ℕ) → k < until - from → get_or keys k 0 ≡ key_at limit work (from + k)
+  pub key : (k : ℕ) → k < until - from → get_or keys k 0 ≡ key_at limit work (from + k)
   unfolding key_at
   key k b =
-      let q : 512 * limit + until - (512 * limit + from) ≡ until - from = omega arith in
       let z : 512 * limit + from + k ≡ 512 * limit + (from + k) = omega arith in
-      rw (e, q) (rw z at (part_get (512 * limit + from) (until - from) k work b))
+      rw e (rw z at (part_get (512 * limit + from) (until - from) k work b))
 
   key_from : (k : ℕ) → from ≤ k → k < until → get_or keys (k - from) 0 ≡ key_at limit work k
   key_from k a b = let z : from + (k - from) ≡ k = omega arith in rw z at (key (k - from) (omega arith))

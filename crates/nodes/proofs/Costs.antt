@@ -1,11 +1,5 @@
 -- The cost of a record's node: the sum of its finishes, and less than the key of a closed node. Assumes nothing.
-use mathlib.Core.Path.{◌≡◌, sym, ◌∙◌, ap}
-use mathlib.Core.List.{List, [], map}
-use Prim.Native.Nat.{ℕ, ◌+◌, ◌<◌, ◌≤◌}
-use native.Mathlib.Nat.{zero-add}
-use native.Mathlib.Omega.{arith}
-use lib.ListN.{length, get_or}
-use lib.Seq.{get_or-take}
+use Rattle.std.proofs.Common.{◌≡◌, sym, ◌∙◌, ap, List, [], map, ℕ, ◌+◌, ◌<◌, ◌≤◌, zero-add, arith, length, get_or, get_or-take}
 use Rattle.deck.specs.Lists.{below, sum}
 use Rattle.deck.specs.Sheet.{Sheet, task}
 use Rattle.deck.specs.Paths.{finish_of}

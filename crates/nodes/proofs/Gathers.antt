@@ -1,67 +1,22 @@
 -- The records of constraints that are gathered along the links. Assumes nothing.
-use mathlib.Core.Path.{◌≡◌, refl, sym, ◌∙◌, ap, ap₂}
-use mathlib.Core.Bool.{true, false}
-use mathlib.Core.List.{List, [], ◌∷◌, ◌++◌, map, append_assoc, append-nil}
-use Prim.Native.Nat.{ℕ, suc, ◌+◌, ◌*◌, ◌-◌, ◌/◌, ◌%◌, ◌<◌, ◌≤◌}
-use native.Mathlib.Nat.{add-zero, zero-add}
-use native.Mathlib.Omega.{arith}
-use lib.ListN.{length, get_or, take, drop, length-append, get_or-append}
-use lib.Seq.{take_at, length-take-le, get_or-append-add}
-use borrow.Author.Tests.{eq-eqb, ne_eqb}
+use Rattle.std.proofs.Common.{◌≡◌, refl, sym, ◌∙◌, ap, ap₂, Bool, cond, true, false, List, [], ◌∷◌, ◌++◌, map, append_assoc, append-nil, ℕ, zero, suc, ◌+◌, ◌*◌, ◌-◌, ◌/◌, ◌<◌, ◌≤◌, zero-add, arith, length, get_or, take, length-append, length-take-le, get_or-append-add}
+use lib.ListN.{get_or-append}
 use Rattle.deck.specs.Lists.{count_from, below, select, each}
-use Rattle.deck.specs.Planner.{bound_by}
 use Rattle.deck.specs.Calls.{constraints_of, constraint_at, record_word}
 use Rattle.deck.specs.declared.Carrier.{Carrier}
 use Rattle.deck.specs.declared.Constraint.{Constraint}
-use Rattle.deck.specs.declared.Constraint.TheVariants.{Place, Move}
-use Rattle.pack.proofs.Loops.{low16}
-use Rattle.records.specs.Cut.{put}
-use Rattle.records.specs.Record.{fields_at, link_in, own_in, head_in, constraint_in, words_of, Small}
-use Rattle.records.specs.declared.NodeHead.{NodeHead}
+use Rattle.std.specs.Prelude.{Some, None}
+use Rattle.std.proofs.lemmas.Option.{same_Some, none-some}
+use Rattle.std.proofs.lemmas.Slice.{take-put_mid}
+use borrow.Rule.Slice.PartMut.{put_mid}
+use Rattle.records.specs.Record.{fields_at, link_in, own_in, origin_in, origin_of, constraint_in, words_of, Small}
 use Rattle.records.proofs.Words.{held_again, length_words}
-use Rattle.nodes.specs.Nodes.{constraints_at, binds, binding_at, Appended, Gathered}
+use Rattle.nodes.specs.Nodes.{constraints_at, binds, binding_at}
+use Rattle.nodes.specs.Listed.{listed, Recorded}
+use Rattle.records.specs.declared.Origin.{Origin}
 use Rattle.nodes.specs.Stored.{Linked}
 use Rattle.nodes.proofs.Tables.{map_same, map_append, count_snoc, select_append}
 use Rattle.nodes.proofs.Chains.{Links, chain_up, chain_root}
-
--- WORDS OF 16 BITS
-pub place_words : (c : Constraint) (a : Carrier) (u t i u' t' : ℕ) → c ≡ Place a u t → Small c → i ≡ a.0 % 65536 → u' ≡ u % 65536 → t' ≡ t % 65536
-    → 0 ∷ i ∷ u' ∷ 0 ∷ t' ∷ [] ≡ words_of c
-unfolding words_of
-place_words c a u t i u' t' e s p q r =
-    let z : Small (Place a u t) = rw e at s in
-    rw (e, low16 a.0 i z.0 p, low16 u u' z.1 q, low16 t t' z.2 r)
-
-pub move_words : (c : Constraint) (a : Carrier) (u v t i u' v' t' : ℕ) → c ≡ Move a u v t → Small c → i ≡ a.0 % 65536 → u' ≡ u % 65536 → v' ≡ v % 65536 → t' ≡ t % 65536
-    → 1 ∷ i ∷ u' ∷ v' ∷ t' ∷ [] ≡ words_of c
-unfolding words_of
-move_words c a u v t i u' v' t' e s p q x r =
-    let z : Small (Move a u v t) = rw e at s in
-    rw (e, low16 a.0 i z.0 p, low16 u u' z.1 q, low16 v v' z.2 x, low16 t t' z.3 r)
-
--- ONE RECORD
--- the first words with a part put anew right after them
-take_put : (a k : ℕ) (ys xs : List ℕ) → length ys ≡ k → a + k ≤ length xs → take (a + k) (put a k ys xs) ≡ take a xs ++ ys
-take_put a k ys xs e h =
-    let l : length (take a xs ++ ys) ≡ a + k = length-append (take a xs) ys ∙ rw (length-take-le a xs (omega arith), e) in
-    rw (← append_assoc (take a xs) ys (drop k (drop a xs))) (take_at (take a xs ++ ys) (drop k (drop a xs)) (a + k) l)
-
-pub appended : (i : Carrier) (c : Constraint) (list ys : List ℕ) (k b : ℕ) → 5 * k + 5 ≤ length list → b ≡ bound_by c → b ≡ i.0 → ys ≡ words_of c
-    → Appended i c list k (put (5 * k) (5 * k + 5 - 5 * k) ys list) (k + 1)
-appended i c list ys k b h p q e =
-    let t : binds i c ≡ true = eq-eqb (bound_by c) i.0 (sym p ∙ q) in
-    let d : 5 * k + 5 - 5 * k ≡ 5 = omega arith in
-    let g : 5 * (k + 1) ≡ 5 * k + 5 = omega arith in
-    record {
-      words = rw (t, d, g, e, append-nil) (take_put (5 * k) 5 (words_of c) list (length_words c) h);
-      number = rw t;
-      few = omega arith;
-    }
-
-pub passed : (i : Carrier) (c : Constraint) (list : List ℕ) (k b : ℕ) → b ≡ bound_by c → (b ≡ i.0 → ⊥) → Appended i c list k list k
-passed i c list k b p n =
-    let t : binds i c ≡ false = ne_eqb (bound_by c) i.0 (λ q. n (p ∙ q)) in
-    record { words = rw (t, append-nil); number = rw (t, add-zero); few = omega arith }
 
 -- THE LIST OF RECORDS
 -- one record more is one constraint more
@@ -98,70 +53,81 @@ records_append rs k (c ∷ cs) l =
     rw (← append_assoc rs (words_of c) (each words_of cs), records_append (rs ++ words_of c) (suc k) cs m, record_snoc rs k c l)
     (append_assoc (constraints_of rs) (c ∷ []) cs)
 
--- ALONG THE LINKS: what is gathered and what is left are the whole
-each_append : (l r : List Constraint) → each words_of (l ++ r) ≡ each words_of l ++ each words_of r
-each_append [] r = refl
-each_append (c ∷ l) r = ap (λ (t : List ℕ). words_of c ++ t) (each_append l r) ∙ sym (append_assoc (words_of c) (each words_of l) (each words_of r))
+each-append : (l r : List Constraint) → each words_of (l ++ r) ≡ each words_of l ++ each words_of r
+each-append [] r = refl
+each-append (c ∷ l) r = ap (λ (t : List ℕ). words_of c ++ t) (each-append l r) ∙ sym (append_assoc (words_of c) (each words_of l) (each words_of r))
 
-pub record Sofar (work : List ℕ) (n : ℕ) (i : Carrier) (before : List ℕ) (count : ℕ) (list : List ℕ) (k at : ℕ) : Type 0 where
-  pub words : take (5 * k) list ++ each words_of (binding_at work at i) ≡ take (5 * count) before ++ each words_of (binding_at work n i)
-  pub number : k + length (binding_at work at i) ≡ count + length (binding_at work n i)
+length_each : (cs : List Constraint) → length (each words_of cs) ≡ 5 * length cs
+length_each [] = refl
+length_each (c ∷ cs) = length-append (words_of c) (each words_of cs) ∙ omega (arith, length_words c, length_each cs)
 
-pub sofar_none : (work : List ℕ) (n : ℕ) (i : Carrier) (list : List ℕ) (count : ℕ) → Sofar work n i list count list count n
-sofar_none work n i list count = record { words = refl; number = refl }
+-- as many constraints as records
+pub length_listed : (words : List ℕ) (count : ℕ) → 5 * count ≤ length words → Recorded words count → length (listed words count) ≡ count
+length_listed words count h r = omega (arith, length-take-le (5 * count) words h, ap length r.kept, length_each (listed words count))
 
-links_of : (work : List ℕ) (n : ℕ) → Linked work n → Links (fields_at work) (suc n)
-links_of work n l k h = l.earlier k (omega arith)
+pub recorded_none : (words : List ℕ) → Recorded words 0
+unfolding constraints_of
+recorded_none words = record { few = omega arith; kept = refl }
 
-module _ (work : List ℕ) (n : ℕ) (i : Carrier) (before : List ℕ) (count : ℕ) (linked : Linked work n) (at : ℕ) (b : at ≤ n) (head : NodeHead) (e : head ≡ head_in (fields_at work at)) where
-  link_is : head.link ≡ link_in (fields_at work at)
-  link_is = ap (λ (h : NodeHead). h.link) e
+pub listed_none : (words : List ℕ) → listed words 0 ≡ []
+unfolding constraints_of
+listed_none words = refl
 
-  own_is : head.constraint ≡ own_in (fields_at work at)
-  own_is = ap (λ (h : NodeHead). h.constraint) e
+-- one record more
+module _ (words ys : List ℕ) (count : ℕ) (c : Constraint) (h : 5 * count + 5 ≤ length words) (r : Recorded words count) (e : ys ≡ words_of c) where
+  front : take (5 * (count + 1)) (put_mid (5 * count) (5 * count + 5 - 5 * count) words ys) ≡ take (5 * count) words ++ words_of c
+  front =
+      let l : length ys ≡ 5 = ap length e ∙ length_words c in
+      take-put_mid (5 * count) (5 * count + 5 - 5 * count) words ys (5 * (count + 1)) (omega arith) (omega arith) ∙ rw e
 
-  pub link_earlier : head.link ≤ at
-  link_earlier = omega (arith, link_is, linked.earlier at b)
+  pub listed_more : listed (put_mid (5 * count) (5 * count + 5 - 5 * count) words ys) (count + 1) ≡ listed words count ++ (c ∷ [])
+  listed_more = ap constraints_of front ∙ record_snoc (take (5 * count) words) count c (length-take-le (5 * count) words (omega arith))
 
-  pub head_small : Small head.constraint
-  head_small = rw own_is (linked.small at b)
-
-  module _ (ne : head.link ≡ 0 → ⊥) where
-    up : binding_at work at i ≡ select (binds i) (head.constraint ∷ []) ++ binding_at work (head.link - 1) i
-    up =
-        ap (select (binds i)) (chain_up (fields_at work) (suc n) at head.link (links_of work n linked) (omega arith) link_is ne)
-        ∙ rw own_is (select_append (binds i) (own_in (fields_at work at) ∷ []) (constraints_at work (head.link - 1)))
-
-    pub sofar_more : (list after : List ℕ) (k r : ℕ) → Appended i head.constraint list k after r → Sofar work n i before count list k at → Sofar work n i before count after r (head.link - 1)
-    sofar_more list after k r a s =
-        let one : List Constraint = select (binds i) (head.constraint ∷ []) in
-        let rest : List Constraint = binding_at work (head.link - 1) i in
-        record {
-          words =
-              rw (a.words, append_assoc (take (5 * k) list) (each words_of one) (each words_of rest), ← each_append one rest, ← up)
-              s.words;
-          number =
-              let q : length (binding_at work at i) ≡ length one + length rest = ap length up ∙ length-append one rest in
-              omega (arith, a.number, s.number, q);
-        }
-
-  pub sofar_all : (list : List ℕ) (k : ℕ) → head.link ≡ 0 → 5 * k ≤ length list → 5 * count ≤ length before → k ≤ count + n → Sofar work n i before count list k at → Gathered work n i before count list k
-  sofar_all list k z h g few s =
-      let none : binding_at work at i ≡ [] = ap (select (binds i)) (chain_root (fields_at work) at head.link link_is z) in
-      let w : take (5 * k) list ≡ take (5 * count) before ++ each words_of (binding_at work n i) = sym (append-nil (take (5 * k) list)) ∙ rw none at s.words in
+  pub recorded_more : count < 4096 → Recorded (put_mid (5 * count) (5 * count + 5 - 5 * count) words ys) (count + 1)
+  recorded_more b =
       record {
-        words = w;
-        number = omega (arith, s.number, ap length none);
-        few = few;
-        constraints = ap constraints_of w ∙ records_append (take (5 * count) before) count (binding_at work n i) (length-take-le (5 * count) before g);
+        few = omega arith;
+        kept =
+            front ∙ ap (λ (t : List ℕ). t ++ words_of c) r.kept
+            ∙ sym (ap (each words_of) listed_more ∙ each-append (listed words count) (c ∷ []) ∙ ap (λ (t : List ℕ). each words_of (listed words count) ++ t) (append-nil (words_of c)));
       }
 
--- the constraint of a child, and then those of its parent: the constraints of the child that bind the carrier
-pub gathered_child : (work : List ℕ) (n : ℕ) (i : Carrier) (c : Constraint) (before mid after : List ℕ) (k r : ℕ) → Appended i c before 0 mid k → Gathered work n i mid k after r
-    → take (5 * r) after ≡ each words_of (select (binds i) (c ∷ constraints_at work n))
-gathered_child work n i c before mid after k r a g =
-    g.words ∙ rw a.words
-    (sym (each_append (select (binds i) (c ∷ [])) (binding_at work n i)) ∙ ap (each words_of) (sym (select_append (binds i) (c ∷ []) (constraints_at work n))))
+-- ALONG THE LINKS
+pub select_one : (f : Constraint → Bool) (c : Constraint) → length (select f (c ∷ [])) ≤ 1
+select_one f c = go (f c)
+  where
+    go : (b : Bool) → length (cond b (c ∷ []) []) ≤ 1
+    go true = omega arith
+    go false = omega arith
+
+module _ (work : List ℕ) (n : ℕ) (i : Carrier) (linked : Linked work n) (at : ℕ) (b : at ≤ n) where
+  links : Links (fields_at work) (suc n)
+  links k h = linked.earlier k (omega arith)
+
+  -- the origin of a child is an earlier node, and its constraint is followed by those of its parent
+  pub origin_up : (o : Origin) → origin_in (fields_at work at) ≡ Some o
+      → (o.parent < at) × Small o.constraint × (binding_at work at i ≡ select (binds i) (o.constraint ∷ []) ++ binding_at work o.parent i)
+  origin_up o e = go (link_in (fields_at work at)) refl e
+    where
+      go : (l : ℕ) → link_in (fields_at work at) ≡ l → origin_of l (own_in (fields_at work at)) ≡ Some o
+          → (o.parent < at) × Small o.constraint × (binding_at work at i ≡ select (binds i) (o.constraint ∷ []) ++ binding_at work o.parent i)
+      go zero z q = absurd (none-some o q)
+      go (suc p) z q =
+          let own : own_in (fields_at work at) ≡ o.constraint = ap (λ (x : Origin). x.constraint) (same_Some _ _ q) in
+          let less : suc p - 1 ≡ p = omega arith in
+          let up : p ≡ o.parent = ap (λ (x : Origin). x.parent) (same_Some _ _ q) in (
+            omega (arith, linked.earlier at b, z, up),
+            rw own at (linked.small at b),
+            ap (select (binds i)) (rw (less, own) at (chain_up (fields_at work) (suc n) at (suc p) links (omega arith) (sym z) (λ y. omega arith)))
+                ∙ select_append (binds i) (o.constraint ∷ []) (constraints_at work p) ∙ rw up,
+          )
+
+  pub origin_none : origin_in (fields_at work at) ≡ None → binding_at work at i ≡ []
+  origin_none e = go (link_in (fields_at work at)) refl e
+    where
+      go : (l : ℕ) → link_in (fields_at work at) ≡ l → origin_of l (own_in (fields_at work at)) ≡ None → binding_at work at i ≡ []
+      go zero z q = ap (select (binds i)) (chain_root (fields_at work) at 0 (sym z) refl)
+      go (suc p) z q = absurd (none-some _ (sym q))
 
 pub records_of : (cs : List Constraint) → constraints_of (each words_of cs) ≡ cs
 records_of cs = records_append [] 0 cs refl ∙ (unfold constraints_of in refl)

@@ -1,17 +1,9 @@
 -- A walk on the sheet's grid is one that is packed and read back; a least path is such a walk; and it depends on the constraints of its
 -- carrier alone. Assumes nothing.
-use mathlib.Core.Path.{◌≡◌, refl, sym, ◌∙◌, ap, subst}
-use mathlib.Core.Logic.{inl, inr}
-use mathlib.Core.Bool.{Bool, true, false, cond, ◌&&◌}
-use mathlib.Core.List.{List, [], ◌∷◌, Memᴰ as Mem}
 use Rattle.std.specs.Prelude.{Option, None, Some}
-use Prim.Native.Nat.{ℕ, zero, suc, ◌+◌, ◌*◌, ◌/◌, ◌%◌, ◌<◌, ◌≤◌}
-use native.Mathlib.Nat.{div-add-mod', suc-mul}
-use native.Mathlib.Numerals.{add-one}
-use native.Mathlib.Omega.{arith}
-use lib.ListN.{length, get_or, get_or-eq_default}
-use lib.Dec.{ltb}
-use borrow.Author.Tests.{ltb-true, ltb-false}
+use Rattle.std.proofs.Common.{◌≡◌, refl, sym, ◌∙◌, ap, subst, inl, inr, Bool, true, false, cond, ◌&&◌, List, [], ◌∷◌, ℕ, zero, suc, ◌+◌, ◌*◌, ◌/◌, ◌%◌, ◌<◌, ◌≤◌, div-add-mod', suc-mul, add-one, arith, length, get_or, ltb, ltb-true, ltb-false}
+use mathlib.Core.List.{Memᴰ as Mem}
+use lib.ListN.{get_or-eq_default}
 use Rattle.deck.specs.Lists.{all, select, take_least}
 use Rattle.deck.specs.Sheet.{Sheet, area, start_of, carrier}
 use Rattle.deck.specs.Paths.{walks, finish_of, serves, keeps, paths_under, taken, least_path}

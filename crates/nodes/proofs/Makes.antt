@@ -1,17 +1,9 @@
 -- Children and roots: their records are sound and stand for the nodes of the search's definition. Assumes nothing.
-use mathlib.Core.Path.{◌≡◌, refl, sym, ◌∙◌, ap, ap₂, subst}
-use mathlib.Core.Bool.{Bool, true, false}
-use mathlib.Core.List.{List, [], ◌∷◌, Memᴰ as Mem}
 use Rattle.std.specs.Prelude.{Some}
-use Prim.Native.Nat.{ℕ, ◌+◌, ◌*◌, ◌-◌, ◌<◌, ◌≤◌, ◌%◌}
-use native.Mathlib.Nat.{zero-add}
-use native.Mathlib.Numerals.{add-one}
+use Rattle.std.proofs.Common.{◌≡◌, refl, sym, ◌∙◌, ap, ap₂, subst, Bool, true, false, List, [], ◌∷◌, ℕ, ◌+◌, ◌*◌, ◌-◌, ◌<◌, ◌≤◌, ◌%◌, zero-add, add-one, arith, eqb, ltb, length, get_or, set, take, replicate, length-append, take_at, get_or-append-add, ne_eqb, ltb-true, ltb-false}
+use mathlib.Core.List.{Memᴰ as Mem}
 use native.Mathlib.Decide.{ℕ_discrete}
-use native.Mathlib.Omega.{arith}
-use lib.Dec.{eqb, ltb}
-use lib.ListN.{length, get_or, set, take, replicate, length-append, length-replicate, get_or-replicate, get_or-append, get_or-eq_default}
-use lib.Seq.{take_at, get_or-append-add}
-use borrow.Author.Tests.{ne_eqb, ltb-true, ltb-false}
+use lib.ListN.{length-replicate, get_or-replicate, get_or-append, get_or-eq_default}
 use Rattle.deck.specs.Lists.{sum}
 use Rattle.deck.specs.Sheet.{Sheet, carrier, task, start_of}
 use Rattle.deck.specs.Paths.{walks, least_path, finish_of}

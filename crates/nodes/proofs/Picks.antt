@@ -1,22 +1,13 @@
 -- The first of the least keys is that of the open node that the definition takes. Assumes nothing.
-use mathlib.Core.Path.{◌≡◌, refl, sym, ◌∙◌, ap}
-use mathlib.Core.Logic.{◌⊎◌, inl, inr, ⊎_elim}
-use mathlib.Core.Bool.{Bool, true, false}
-use mathlib.Core.List.{List, [], map}
+use Rattle.std.proofs.Common.{◌≡◌, refl, sym, ◌∙◌, ap, ◌⊎◌, inl, inr, ⊎_elim, Bool, true, false, List, [], map, ℕ, ◌+◌, ◌*◌, ◌<◌, ◌≤◌, min, arith, eqb, ltb, length, get_or, ne_eqb, ltb-true, ltb-false, below_more}
+use borrow.Author.Tests.{eqb-false, not-true}
 use Rattle.std.specs.Prelude.{Some}
-use Prim.Native.Nat.{ℕ, ◌+◌, ◌*◌, ◌<◌, ◌≤◌, min}
-use native.Mathlib.Omega.{arith}
-use lib.Dec.{eqb, ltb}
-use lib.ListN.{length, get_or}
-use borrow.Author.Tests.{ne_eqb, eqb-false, not-true, ltb-true, ltb-false}
-use borrow.Author.Count.{below_more}
 use Rattle.deck.specs.Lists.{take_least}
 use Rattle.deck.specs.Sheet.{Sheet}
 use Rattle.deck.specs.Search.{Node}
 use Rattle.deck.specs.declared.Constraint.{Constraint}
 use Rattle.records.specs.Record.{fields_at, key_at, closed_key, with_key}
 use Rattle.records.proofs.Frames.{key_same, key_other, key_record}
-use Rattle.nodes.specs.declared.Pick.TheVariants.{Open}
 use Rattle.nodes.specs.Nodes.{cost_of, node_of, node_at, is_open, open_numbers, opened_at, LeastTo, Cheapest}
 use Rattle.nodes.specs.Stored.{Fits, Stored}
 use Rattle.nodes.proofs.Tables.{map_select_same, select_none, take_map, mapped, took_first}
@@ -42,9 +33,6 @@ least_more keys i r v e l =
     go true q = let h : get_or keys i 0 < r = ltb-true (get_or keys i 0) r q in inr (i, omega arith, omega arith)
     go false q = let h : r ≤ get_or keys i 0 = ltb-false (get_or keys i 0) r q in old (omega arith)
 
-pub least_all : (keys : List ℕ) (i n r : ℕ) → i ≡ n → LeastTo keys i r → LeastTo keys n r
-least_all keys i n r e l = rw (← e) l
-
 -- THE CHOICE: no key is less than v
 module _ (d : Sheet) (limit : ℕ) (work : List ℕ) (made : ℕ) (f : Fits d) (s : Stored d limit work made) (v : ℕ) (least : (k : ℕ) → k < made → v ≤ key_at limit work k) where
   open_cost : (k : ℕ) → k < made → is_open limit work k ≡ true → key_at limit work k ≡ cost_of d (fields_at work k)
@@ -63,7 +51,7 @@ module _ (d : Sheet) (limit : ℕ) (work : List ℕ) (made : ℕ) (f : Fits d) (
 
   -- the first of the least keys is the node that is taken
   pub picked_open : (n cost : ℕ) → made ≤ limit → limit ≤ 4096 → 512 * limit + 4096 ≤ length work → (v ≡ closed_key → ⊥) → n < made → key_at limit work n ≡ v → ((j : ℕ) → j < n → key_at limit work j ≡ v → ⊥) → cost ≡ v
-      → Cheapest d limit work made (Open n cost)
+      → Cheapest d limit work made (Some (record { n = n; cost = cost }))
   unfolding node_of
   picked_open n cost m c h ne inside key first g = (g ∙ sym paid, took)
     where

@@ -1,14 +1,8 @@
 -- What the readers of a record say of its node, and what the gathered records are to the path call. Assumes nothing.
-use mathlib.Core.Path.{◌≡◌, refl, sym, ◌∙◌, ap}
-use mathlib.Core.Bool.{Bool, true, false, ◌&&◌}
-use mathlib.Core.List.{List, [], ◌∷◌, ◌++◌, Memᴰ as Mem}
-use Prim.Native.Nat.{ℕ, ◌+◌, ◌*◌, ◌-◌, ◌/◌, ◌%◌, ◌<◌, ◌≤◌}
-use native.Mathlib.Nat.{mul-le-mul_left, mul-le-mul_right}
-use native.Mathlib.Omega.{arith}
-use lib.Dec.{T, eqb, leb, ltb, le→leb, lt→ltb}
-use lib.ListN.{length, get_or, take, drop, replicate, length-append, length-drop, length-replicate, get_or-replicate, take-append-drop}
-use lib.Seq.{get_or-take, get_or-drop, ext_get_or, length-take-le}
 use Rattle.std.specs.Prelude.{None}
+use Rattle.std.proofs.Common.{◌≡◌, refl, sym, ◌∙◌, ap, Bool, true, false, ◌&&◌, List, [], ◌∷◌, ◌++◌, ℕ, ◌+◌, ◌*◌, ◌-◌, ◌/◌, ◌%◌, ◌<◌, ◌≤◌, mul-le-mul_left, mul-le-mul_right, arith, T, eqb, leb, ltb, le→leb, lt→ltb, length, get_or, take, drop, replicate, length-append, length-drop, take-append-drop, get_or-take, get_or-drop, ext_get_or, length-take-le}
+use mathlib.Core.List.{Memᴰ as Mem}
+use lib.ListN.{length-replicate, get_or-replicate}
 use Rattle.deck.specs.Lists.{below, all, each}
 use Rattle.deck.specs.Sheet.{Sheet, area, carrier, task, cause, read}
 use Rattle.deck.specs.Paths.{finish_of}

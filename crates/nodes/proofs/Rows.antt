@@ -1,20 +1,10 @@
 -- The paths of a node written carrier by carrier. Assumes nothing.
-use mathlib.Core.Path.{◌≡◌, refl, sym, ◌∙◌, ap}
-use mathlib.Core.List.{List, [], ◌∷◌, ◌++◌, map, append_assoc, append-nil}
-use Prim.Native.Nat.{ℕ, zero, suc, ◌+◌, ◌*◌, ◌-◌, ◌<◌, ◌≤◌}
-use native.Mathlib.Nat.{suc-mul, mul-le-mul_right, zero-add}
-use native.Mathlib.Numerals.{add-one}
-use native.Mathlib.Omega.{arith}
-use lib.ListN.{length, get_or, drop, length-append}
-use lib.Seq.{take_at, drop_at, drop-drop}
+use Rattle.std.proofs.Common.{◌≡◌, refl, sym, ◌∙◌, ap, List, [], ◌∷◌, ◌++◌, map, append_assoc, append-nil, ℕ, zero, suc, ◌+◌, ◌*◌, ◌-◌, ◌<◌, ◌≤◌, suc-mul, mul-le-mul_right, zero-add, add-one, arith, length, get_or, drop, length-append, take_at, drop_at, drop-drop}
 use Rattle.deck.specs.Lists.{count_from, flat}
 use Rattle.deck.specs.Calls.{overwrite}
-use Rattle.pack.specs.Pack.{unpack_of}
 use Rattle.pack.proofs.Trips.{length_unpack}
-use Rattle.records.specs.Cut.{part, put}
-use Rattle.records.specs.Record.{fields_at, packed_in}
-use Rattle.records.proofs.Cuts.{length_part}
-use Rattle.records.proofs.Frames.{lent_field}
+use Rattle.records.specs.Cut.{put}
+use Rattle.records.specs.Record.{packed_in}
 use Rattle.nodes.specs.Nodes.{path_in, paths_in}
 use Rattle.nodes.proofs.Tables.{count_snoc, map_append}
 
@@ -61,15 +51,3 @@ module _ (w last : ℕ) (starts : List ℕ) (fs : List (List ℕ)) where
 
   pub rows_all : (i m : ℕ) (before out : List ℕ) → i ≡ m → out ≡ overwrite (rows_to i) before → out ≡ overwrite (rows_to m) before
   rows_all i m before out e q = q ∙ rw e
-
--- the words of path i as they are lent, and the path that is unpacked from them
-pub unpacked : (w last : ℕ) (starts work : List ℕ) (n i start : ℕ) (words ys : List ℕ) → i < 12
-    → words ≡ part (512 * n + (200 + 20 * i)) (512 * n + (200 + 20 * i) + 20 - (512 * n + (200 + 20 * i))) work → start ≡ get_or starts i 0 → ys ≡ unpack_of w last words start
-    → ys ≡ path_in w last starts (fields_at work n) i
-unpacked w last starts work n i start words ys h e s u =
-    u ∙ rw (e, s, lent_field work n 7 (20 * i) 20 (512 * n + (200 + 20 * i)) (512 * n + (200 + 20 * i) + 20) (omega arith) (omega arith) refl refl)
-
-pub lent_row : (o k : ℕ) (xs : List ℕ) → o + k ≤ length xs → length (part o (o + k - o) xs) ≡ k
-lent_row o k xs h =
-    let d : o + k - o ≡ k = omega arith in
-    rw d (length_part o k xs h)

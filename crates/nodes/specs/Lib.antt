@@ -1,2 +1,3 @@
+pub mod Listed
 pub mod Nodes
 pub mod Stored

@@ -1,17 +1,17 @@
 -- The nodes of the search's definition that the workspace stands for. Assumes nothing.
 use Rattle.std.specs.Prelude.{ℕ, zero, suc, ◌+◌, ◌*◌, ◌<◌, ◌≤◌, min, ◌≡◌, ◌⊎◌, Bool, not, List, [], ◌∷◌, ◌++◌, map, get_or, take, length, eqb}
 use Rattle.std.specs.Prelude.{Some}
-use Rattle.deck.specs.Lists.{below, select, each, take_least}
+use Rattle.std.specs.Prelude.{ℕ, zero, suc, ◌+◌, ◌*◌, ◌<◌, ◌≤◌, min, ◌≡◌, ◌⊎◌, Bool, not, Option, None, Some, List, [], ◌∷◌, map, get_or, take, length, eqb}
+use Rattle.std.proofs.Math.Option.{some}
+use Rattle.deck.specs.Lists.{below, select, take_least}
 use Rattle.deck.specs.Sheet.{Sheet}
 use Rattle.deck.specs.Search.{Node, flowtime}
 use Rattle.deck.specs.Planner.{problem, bound_by}
-use Rattle.deck.specs.Calls.{constraints_of}
 use Rattle.deck.specs.declared.Carrier.{Carrier}
 use Rattle.deck.specs.declared.Constraint.{Constraint}
 use Rattle.pack.specs.Pack.{unpack_of}
-use Rattle.records.specs.Record.{fields_at, link_in, root_in, own_in, tasks_in, packed_in, words_of, key_at, closed_key, with_key}
-use Rattle.nodes.specs.declared.Pick.{Pick}
-use Rattle.nodes.specs.declared.Pick.TheVariants.{Nothing, Open}
+use Rattle.records.specs.Record.{fields_at, link_in, root_in, own_in, tasks_in, packed_in, key_at, closed_key, with_key}
+use Rattle.nodes.specs.declared.Open.{Open}
 
 -- a root, of link 0, has no constraint; else its own is followed by its parent's
 abbrev pub upward : Constraint → ℕ → (ℕ → List Constraint) → List Constraint
@@ -105,25 +105,12 @@ pub record Lows (limit : ℕ) (work : List ℕ) (made : ℕ) (lows : List ℕ) :
   pub block : (b : ℕ) → b < 64 → LeastIn limit work (64 * b) (block_end b made) (get_or lows b 0)
 
 -- "take the open node of least cost, then of least number": n is that node, and cost is its cost; or none is open
-abbrev pub Cheapest : Sheet → ℕ → List ℕ → ℕ → Pick → Type 0
-Cheapest d limit work made Nothing = opened_at d limit work made ≡ []
-Cheapest d limit work made (Open n cost) =
-    (cost ≡ (node_at d work n).cost)
-    × (take_least (λ x. x.cost) (opened_at d limit work made) ≡ Some (node_at d work n, opened_at d limit (with_key limit n closed_key work) made))
+abbrev pub Cheapest : Sheet → ℕ → List ℕ → ℕ → Option Open → Type 0
+Cheapest d limit work made None = opened_at d limit work made ≡ []
+Cheapest d limit work made (Some o) =
+    (o.cost ≡ (node_at d work o.n).cost)
+    × (take_least (λ x. x.cost) (opened_at d limit work made) ≡ Some (node_at d work o.n, opened_at d limit (with_key limit o.n closed_key work) made))
 
-abbrev pub InRange : ℕ → Pick → Type 0
-InRange made Nothing = Unit {0}
-InRange made (Open n cost) = n < made
-
--- one constraint is tried for carrier i, and its record stands after the first k records if it binds i
-pub record Appended (i : Carrier) (c : Constraint) (before : List ℕ) (k : ℕ) (after : List ℕ) (r : ℕ) : Type 0 where
-  pub words : take (5 * r) after ≡ take (5 * k) before ++ each words_of (select (binds i) (c ∷ []))
-  pub number : r ≡ k + length (select (binds i) (c ∷ []))
-  pub few : r ≤ k + 1
-
--- The records of the constraints of node n that bind carrier i stand after the first `count` records of a list, r records in all
-pub record Gathered (work : List ℕ) (n : ℕ) (i : Carrier) (before : List ℕ) (count : ℕ) (after : List ℕ) (r : ℕ) : Type 0 where
-  pub words : take (5 * r) after ≡ take (5 * count) before ++ each words_of (binding_at work n i)
-  pub number : r ≡ count + length (binding_at work n i)
-  pub few : r ≤ count + n
-  pub constraints : constraints_of (take (5 * r) after) ≡ constraints_of (take (5 * count) before) ++ binding_at work n i
+abbrev pub InRange : ℕ → Option Open → Type 0
+InRange made None = Unit {0}
+InRange made (Some o) = o.n < made

@@ -26,6 +26,10 @@ fields_at work n = fields (part (512 * n) 512 work)
 abbrev pub HasRecord : List ℕ → ℕ → Type 0
 HasRecord work n = 512 * n + 512 ≤ length work
 
+-- the workspace has the records and the keys of `limit` nodes
+abbrev pub HasNodes : ℕ → List ℕ → Type 0
+HasNodes limit work = (limit ≤ 4096) × (512 * limit + 4096 ≤ length work)
+
 abbrev pub link_in : List (List ℕ) → ℕ
 link_in fs = get_or (get_or fs 0 []) 0 0
 

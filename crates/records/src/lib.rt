@@ -2,11 +2,12 @@
 // a key for each node. Every field is read and written here and nowhere else.
 #![tactic(auto)]
 
-ghost use Rattle.std.specs.Prelude.{◌≡◌, [], ◌∷◌, ◌+◌, ◌*◌, ◌<◌, ◌≤◌, length, get_or, set, sum as std_sum};
+ghost use Rattle.std.specs.Prelude.{◌≡◌, [], ◌∷◌, ◌+◌, ◌-◌, ◌*◌, ◌<◌, ◌≤◌, length, get_or, set, sum as std_sum};
 ghost use Rattle.deck.specs.Lists.{sum};
 ghost use Rattle.deck.specs.Sheet.{task};
 ghost use Rattle.pack.specs.Pack.{pack_of};
-ghost use Rattle.records.specs.Record.{fields, fields_at, HasRecord, root_in, constraint_in, origin_in, tasks_in, finishes_in, row_in, closed_in, slot_at, slot_in, tournament_in, packed_in, bytes, words_of, Small, with_path, with_slot, slot_words, root_fields, closed_key, with_key, Wrote};
+ghost use Rattle.records.specs.Cut.{part};
+ghost use Rattle.records.specs.Record.{fields, fields_at, HasRecord, HasNodes, root_in, constraint_in, origin_in, tasks_in, finishes_in, row_in, closed_in, slot_at, slot_in, tournament_in, packed_in, bytes, words_of, Small, with_path, with_slot, slot_words, root_fields, closed_key, with_key, Wrote};
 
 use deck::{Carrier, Constraint, Task};
 use std::marker::Model;
@@ -35,7 +36,8 @@ const SLOT_SIZE: usize = 14;
 
 const PATH_SIZE: usize = 20;
 
-const CLOSED_KEY: u32 = 65535;
+// The key of a closed node; no cost is as much.
+pub const CLOSED_KEY: u32 = 65535;
 
 // Where a child comes from: its parent's number, and its own constraint.
 #[derive(Clone, Copy)]
@@ -64,6 +66,14 @@ pub fn words_of(c: Constraint) -> [u16; 5]
     }
 }
 
+// The same as words.
+fn constraint_words(c: Constraint) -> [u32; 5]
+    requires { Small c }
+    ensures { result ≡ words_of c }
+{
+    words_of(c).map(u32::from)
+}
+
 // The constraint of five words.
 fn constraint_of(words: &[u32]) -> Constraint
     requires { length words.now ≡ 5 }
@@ -77,14 +87,6 @@ fn constraint_of(words: &[u32]) -> Constraint
     }
     let v = words[3] as usize;
     Constraint::Move { carrier, u, v, t }
-}
-
-// The same as words.
-fn constraint_words(c: Constraint) -> [u32; 5]
-    requires { Small c }
-    ensures { result ≡ words_of c }
-{
-    words_of(c).map(u32::from)
 }
 
 // Twelve bytes as words, and twelve words as bytes.
@@ -189,7 +191,8 @@ impl<'a> Record<'a> {
     // The packed path of a carrier.
     pub fn path(&self, i: Carrier) -> &'a [u32]
         requires { i.0 < 12 }
-        ensures { result.now ≡ packed_in self.now i.0 }
+        ensures words { result.now ≡ packed_in self.now i.0 }
+        ensures long { length result.now ≡ 20 }
     {
         let from = PATHS + PATH_SIZE * i.0;
         &self.words[from..from + PATH_SIZE]
@@ -228,6 +231,15 @@ impl<'a> Record<'a> {
             tasks: bytes_of(&self.words[at + 2..at + SLOT_SIZE]),
         })
     }
+}
+
+// The keys of the nodes from..until.
+pub fn keys(work: &[u32], limit: usize, from: usize, until: usize) -> &[u32]
+    requires { (from ≤ until) × (until ≤ 4096) × HasNodes limit work.now }
+    ensures { result.now ≡ part (512 * limit + from) (until - from) work.now }
+{
+    let keys = SIZE * limit;
+    &work[keys + from..keys + until]
 }
 
 // WRITING

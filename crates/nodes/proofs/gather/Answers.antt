@@ -1,26 +1,27 @@
--- `gather` meets its contract: what is gathered and what is left along the links are the whole. Assumes nothing.
-use native.Mathlib.Omega.{arith}
-use mathlib.Core.Path.{◌∙◌}
-use Rattle.nodes.proofs.Gathers.{link_earlier, sofar_more, sofar_all}
+-- What is gathered and what is left along the links are the whole. Assumes nothing.
+use Rattle.std.proofs.Common.{◌∷◌, [], length, length-append, append-nil, append_assoc, sym, ◌∙◌, ap, arith}
+use Rattle.deck.specs.Lists.{select}
+use Rattle.records.specs.Record.{origin_in}
+use Rattle.nodes.specs.Nodes.{binds}
+use Rattle.nodes.proofs.Gathers.{origin_up, origin_none, select_one}
 use Rattle.nodes.proofs.gather.Goals as goal
 
-pub loop-head-preserved : goal.loop-head-preserved
-loop-head-preserved c =
-    let args = c.args in
-    let pre = c.requires in
-    let loop = c.loop-head in
-    let if1 = c.loop-head-test in
-    let append = c.append-k in (
-      omega (arith, link_earlier args.work.now args.n args.i args.list.now args.count pre.linked loop.at (omega arith) loop.head loop.invariant.1),
-      c.head_of-head-in-loop-head.ensures,
-      omega (arith, link_earlier args.work.now args.n args.i args.list.now args.count pre.linked loop.at (omega arith) loop.head loop.invariant.1, append.ensures.few),
-      append.auto.list ∙ loop.invariant.3,
-      sofar_more args.work.now args.n args.i args.list.now args.count pre.linked loop.at (omega arith) loop.head loop.invariant.1 if1.true loop.list _ loop.k _ append.ensures loop.invariant.4,
-    )
+pub loop-origin-preserved : goal.loop-origin-preserved
+loop-origin-preserved c =
+    let s = c.loop-origin.invariant in
+    let i = c.args.i in
+    let one = select (binds i) (c.in-Some.origin.constraint ∷ []) in
+    let up = origin_up c.args.work.now c.args.n i c.requires.linked c.loop-origin.at s.earlier c.in-Some.origin (sym (c.in-Some.ensures ∙ ap origin_in c.at.ensures)) in
+    record {
+      earlier = omega (arith, up.0, s.earlier);
+      room =
+          omega
+          (arith, s.room, up.0, ap length c.append.ensures, length-append c.loop-origin.list one, select_one (binds i) c.in-Some.origin.constraint);
+      whole = rw (c.append.ensures, append_assoc, ← up.2) s.whole;
+    }
 
 pub returns : goal.returns
 returns c =
-    let args = c.args in
-    let pre = c.requires in
-    let loop = c.loop-head in
-    sofar_all args.work.now args.n args.i args.list.now args.count pre.linked loop.at (omega arith) loop.head loop.invariant.1 loop.list loop.k c.loop-head-test.false (omega arith) (omega arith) (omega arith) loop.invariant.4
+    let s = c.loop-origin.invariant in
+    let none = origin_none c.args.work.now c.args.n c.args.i c.requires.linked c.loop-origin.at s.earlier (sym (c.in_default.ensures ∙ ap origin_in c.at.ensures)) in
+    sym (append-nil c.loop-origin.list) ∙ rw none at s.whole

@@ -1,10 +1,6 @@
--- `least` meets its contract: the least of the first k keys. Assumes nothing.
-use native.Mathlib.Omega.{arith}
+-- The least of the keys so far. Assumes nothing.
 use Rattle.nodes.proofs.Picks.{least_more}
 use Rattle.nodes.proofs.least.Goals as goal
 
-pub loop-k-preserved : goal.loop-k-preserved
-loop-k-preserved c =
-    let args = c.args in
-    let loop = c.loop-k in
-    (omega arith, least_more args.keys.now loop.k loop.best _ c.lesser-best.ensures loop.invariant.1)
+pub loop-key-preserved : goal.loop-key-preserved
+loop-key-preserved c = least_more c.args.keys.now c.loop-key.key-index c.loop-key.best _ c.min-best.ensures c.loop-key.invariant

@@ -1,8 +1,6 @@
--- `least` meets its contract: the least of the first k keys. Assumes nothing.
-use Prim.Native.Nat.{◌≤◌}
-use lib.ListN.{length}
+-- The least of the keys so far. Assumes nothing.
 use Rattle.nodes.specs.Nodes.{LeastTo}
 use Rattle.nodes.proofs.least.Given as goal
 
-abbrev pub invariant-loop-k : goal.invariant-loop-k
-invariant-loop-k l = (l.k ≤ length l.keys) × LeastTo l.keys l.k l.best
+abbrev pub invariant-loop-key : goal.invariant-loop-key
+invariant-loop-key l = LeastTo l.keys l.key-index l.best

@@ -1,18 +1,11 @@
--- `make_child` meets its contract: the parent's record with a link, a constraint and a path of its own, and then the key. Assumes nothing.
-use native.Mathlib.Omega.{arith}
-use mathlib.Core.Path.{◌∙◌}
+-- The parent's record with a link, a constraint and a path of its own, and then the key. Assumes nothing.
+use Rattle.std.proofs.Common.{◌∙◌, arith}
 use Rattle.nodes.proofs.Makes.{child_made}
 use Rattle.nodes.proofs.make_child.Goals as goal
 
 pub returns : goal.returns
-returns c =
-    let args = c.args in
-    let pre = c.requires in
-    let copy-record = c.copy_record in
-    let set-head = c.set_head in
-    let put-path = c.put_path in
-    let open-node = c.open_node in
-    λ d ew eh g.
-    child_made d args.limit args.work.now copy-record.new.work set-head.new.work put-path.new.work _ args.made args.n args.child.carrier.0 args.child.constraint args.finish args.path.now
-    args.w args.last ew eh (omega arith) (omega arith) (omega arith) (omega arith) pre.n_lt_made.5 (put-path.auto.work ∙ set-head.auto.work ∙ copy-record.auto.work)
-    copy-record.ensures set-head.ensures put-path.ensures open-node.ensures g
+returns c = λ d ew eh g.
+    let a = c.args in
+    child_made d a.limit a.work.now c.copy_record.new.work c.set_origin.new.work c.put_path.new.work _ a.made a.n a.child.carrier.0 a.child.constraint a.finish a.path.now
+    a.w a.last ew eh (omega arith) (omega arith) (omega arith) (omega arith) c.requires.n_lt_made.3 (c.put_path.auto.work ∙ c.set_origin.auto.work ∙ c.copy_record.auto.work)
+    c.copy_record.ensures c.set_origin.ensures c.put_path.ensures c.open_node.ensures g
