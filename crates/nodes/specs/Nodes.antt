@@ -1,8 +1,5 @@
 -- The nodes of the search's definition that the workspace stands for. Assumes nothing.
-use Rattle.std.specs.Prelude.{ℕ, zero, suc, ◌+◌, ◌*◌, ◌<◌, ◌≤◌, min, ◌≡◌, ◌⊎◌, Bool, not, List, [], ◌∷◌, ◌++◌, map, get_or, take, length, eqb}
-use Rattle.std.specs.Prelude.{Some}
 use Rattle.std.specs.Prelude.{ℕ, zero, suc, ◌+◌, ◌*◌, ◌<◌, ◌≤◌, min, ◌≡◌, ◌⊎◌, Bool, not, Option, None, Some, List, [], ◌∷◌, map, get_or, take, length, eqb}
-use Rattle.std.proofs.Math.Option.{some}
 use Rattle.deck.specs.Lists.{below, select, take_least}
 use Rattle.deck.specs.Sheet.{Sheet}
 use Rattle.deck.specs.Search.{Node, flowtime}

@@ -29,7 +29,7 @@ pub struct Open {
 }
 
 // What makes a child: a constraint, and the carrier that it binds.
-#[derive(Clone, Copy)]
+#[derive(Clone, Copy, Debug, PartialEq, Eq)]
 pub struct Child {
     pub carrier: Carrier,
     pub constraint: Constraint,
@@ -109,11 +109,11 @@ pub fn enter(work: &[u32], limit: usize, from: usize, made: usize, lows: &mut [u
 
 // CONSTRAINTS ALONG THE LINKS
 
-fn bound_by(c: Constraint) -> usize
-    ensures { result ≡ bound_by c }
+fn bound_by(c: Constraint) -> Carrier
+    ensures { result.0 ≡ bound_by c }
 {
     match c {
-        Constraint::Place { carrier, .. } | Constraint::Move { carrier, .. } => carrier.0,
+        Constraint::Place { carrier, .. } | Constraint::Move { carrier, .. } => carrier,
     }
 }
 
@@ -122,7 +122,7 @@ pub fn append(list: &mut ConstraintList, i: Carrier, c: Constraint)
     requires { (length list.old < 4096) × Small c }
     ensures { list.new ≡ list.old ++ select (binds i) (c ∷ []) }
 {
-    if bound_by(c) == i.0 {
+    if bound_by(c) == i {
         list.push(c);
     }
 }

@@ -40,7 +40,7 @@ const PATH_SIZE: usize = 20;
 pub const CLOSED_KEY: u32 = 65535;
 
 // Where a child comes from: its parent's number, and its own constraint.
-#[derive(Clone, Copy)]
+#[derive(Clone, Copy, Debug, PartialEq, Eq)]
 pub struct Origin {
     pub parent: usize,
     pub constraint: Constraint,
