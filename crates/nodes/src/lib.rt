@@ -28,13 +28,6 @@ pub struct Open {
     pub cost: usize,
 }
 
-// What makes a child: a constraint, and the carrier that it binds.
-#[derive(Clone, Copy, Debug, PartialEq, Eq)]
-pub struct Child {
-    pub carrier: Carrier,
-    pub constraint: Constraint,
-}
-
 // THE CHOICE
 
 // The least of the keys: one pass without a branch.
@@ -109,7 +102,8 @@ pub fn enter(work: &[u32], limit: usize, from: usize, made: usize, lows: &mut [u
 
 // CONSTRAINTS ALONG THE LINKS
 
-fn bound_by(c: Constraint) -> Carrier
+// The carrier that a constraint binds.
+pub fn bound_by(c: Constraint) -> Carrier
     ensures { result.0 ≡ bound_by c }
 {
     match c {
@@ -191,22 +185,22 @@ pub fn make_child(
     limit: usize,
     made: usize,
     n: usize,
-    child: Child,
+    constraint: Constraint,
     finish: usize,
     path: &[u16],
     w: usize,
     last: usize,
 )
-    requires n_lt_made { (n < made) × (made < limit) × (child.carrier.0 < 12) × Small child.constraint × HasNodes limit work.old }
+    requires n_lt_made { (n < made) × (made < limit) × (bound_by constraint < 12) × Small constraint × HasNodes limit work.old }
     requires finish_bound { (finish < 4294967296) × (length path.now ≡ last + 1) × (w ≤ 32) }
-    ensures { (d : Sheet) → d.width ≡ w → d.horizon ≡ last → ChildOf d limit work.old made n child.carrier.0 child.constraint finish path.now → Added d limit work.old work.new made (child_node (problem d) (node_at d work.old n) child.constraint path.now) }
+    ensures { (d : Sheet) → d.width ≡ w → d.horizon ≡ last → ChildOf d limit work.old made n (bound_by constraint) constraint finish path.now → Added d limit work.old work.new made (child_node (problem d) (node_at d work.old n) constraint path.now) }
 {
     let origin = Origin {
         parent: n,
-        constraint: child.constraint,
+        constraint,
     };
     records::copy_record(work, n, made);
     records::set_origin(work, made, origin);
-    records::put_path(work, made, child.carrier, finish, path, w, last);
+    records::put_path(work, made, bound_by(constraint), finish, path, w, last);
     open_node(work, limit, made);
 }

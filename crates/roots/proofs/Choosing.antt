@@ -12,7 +12,6 @@ use Rattle.candidates.specs.declared.Candidate.{Candidate}
 use Rattle.records.specs.Record.{fields_at, flag_in, sum_in, slot_tasks_in, bytes}
 use Rattle.roots.specs.Choices.{slot_before, first_of, better_of, over_slots}
 use Rattle.roots.specs.declared.Choice.{Choice}
-use Rattle.roots.specs.declared.Choice.TheVariants.{Nothing, Slot as Chosen}
 
 -- the comparison of two slots, from the sums that were read
 module _ (fs gs : List (List ℕ)) (j q s t : ℕ) (a : s ≡ sum_in fs j) (b : t ≡ sum_in gs q) where
@@ -35,8 +34,8 @@ is_not true e = sym e
 is_not false e = refl
 
 -- the first of a slot and a choice
-module _ (work : List ℕ) (n j : ℕ) (b : Choice) where
-  pub the_first : b ≡ Nothing → Chosen n j ≡ first_of work n j b
+module _ (work : List ℕ) (n j : ℕ) (b : Option Choice) where
+  pub the_first : b ≡ None → Chosen n j ≡ first_of work n j b
   the_first g = rw g
 
   pub the_new : (s : Bool) (p q : ℕ) → b ≡ Chosen p q → s ≡ slot_before (fields_at work n) j (fields_at work p) q → s ≡ true → Chosen n j ≡ first_of work n j b
@@ -49,16 +48,16 @@ module _ (work : List ℕ) (n j : ℕ) (b : Choice) where
   unfolding better_of
   no_slot r e f = rw (sym e ∙ is_not r f)
 
-  pub some_slot : (r : Bool) (c : Choice) → r ≡ eqb (flag_in (fields_at work n) j) 1 → not r ≡ false → c ≡ first_of work n j b → c ≡ better_of work n j b
+  pub some_slot : (r : Bool) (c : Option Choice) → r ≡ eqb (flag_in (fields_at work n) j) 1 → not r ≡ false → c ≡ first_of work n j b → c ≡ better_of work n j b
   unfolding better_of
   some_slot r c e f g = rw (sym e ∙ is_so r f) g
 
 -- one slot of a root after another
-pub more_slots : (work : List ℕ) (n m j : ℕ) (b : Choice) → j < m → over_slots work n (count_from j (m - j)) b ≡ over_slots work n (count_from (j + 1) (m - (j + 1))) (better_of work n j b)
+pub more_slots : (work : List ℕ) (n m j : ℕ) (b : Option Choice) → j < m → over_slots work n (count_from j (m - j)) b ≡ over_slots work n (count_from (j + 1) (m - (j + 1))) (better_of work n j b)
 more_slots work n m j b h =
     let e : m - j ≡ suc (m - (j + 1)) = omega arith in
     let f : j + 1 ≡ suc j = omega arith in
     rw (e, f)
 
-pub no_more_slots : (work : List ℕ) (n m j : ℕ) (b : Choice) → m ≤ j → over_slots work n (count_from j (m - j)) b ≡ b
+pub no_more_slots : (work : List ℕ) (n m j : ℕ) (b : Option Choice) → m ≤ j → over_slots work n (count_from j (m - j)) b ≡ b
 no_more_slots work n m j b h = let e : m - j ≡ 0 = omega arith in rw e

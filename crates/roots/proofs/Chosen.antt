@@ -31,7 +31,6 @@ use Rattle.records.proofs.Words.{bytes_same}
 use Rattle.roots.specs.Slots.{slot_of, slot_here, root_slots, slots_at, PartsHold}
 use Rattle.roots.specs.Choices.{slot_before, first_of, better_of, over_slots, Live, ChosenOf}
 use Rattle.roots.specs.declared.Choice.{Choice}
-use Rattle.roots.specs.declared.Choice.TheVariants.{Nothing, Slot as Chosen}
 
 -- of two lists of one length, one comes before the other, or they are the same
 list_lower : (a b : List ℕ) → length a ≡ length b → (a ≡ b) ⊎ (StrictlyBefore a b ⊎ StrictlyBefore b a)
@@ -133,20 +132,20 @@ module _ (m : ℕ) (work roots : List ℕ) where
           (λ l. absurd (false≢true (sym e ∙ is_true (slot_before (fields_at work n) j (fields_at work p) q) ((says_before m table work roots rest small H n j p q live h.0).test l)))))) (cases_append seen i),
     )
 
-    one_more : (b : Choice) → ChosenOf m work roots seen b → ChosenOf m work roots (seen ++ slot_here m (fields_at work n) j) (better_of work n j b)
+    one_more : (b : Option Choice) → ChosenOf m work roots seen b → ChosenOf m work roots (seen ++ slot_here m (fields_at work n) j) (better_of work n j b)
     unfolding slot_here better_of
     one_more b h = go (eqb (flag_in (fields_at work n) j) 1) refl b h
       where
         live : eqb (flag_in (fields_at work n) j) 1 ≡ true → Live m work roots n j
         live e = record { root = root; low = low; high = high; flag = eqb-true (flag_in (fields_at work n) j) 1 e }
 
-        go : (t : Bool) → eqb (flag_in (fields_at work n) j) 1 ≡ t → (b : Choice) → ChosenOf m work roots seen b
+        go : (t : Bool) → eqb (flag_in (fields_at work n) j) 1 ≡ t → (b : Option Choice) → ChosenOf m work roots seen b
             → ChosenOf m work roots (seen ++ cond t (s ∷ []) []) (cond t (first_of work n j b) b)
         go false e b h = subst (λ (l : List Slot). ChosenOf m work roots l b) (sym (append-nil seen)) h
-        go true e Nothing h = (live e, λ table rest small H. rw h (λ t i. inl (ap (λ (x : Slot). x.first) (only i))))
-        go true e (Chosen p q) h = first_of_two p q (live e) h (slot_before (fields_at work n) j (fields_at work p) q) refl
+        go true e None h = (live e, λ table rest small H. rw h (λ t i. inl (ap (λ (x : Slot). x.first) (only i))))
+        go true e (Some c) h = first_of_two c.n c.j (live e) h (slot_before (fields_at work n) j (fields_at work c.n) c.j) refl
 
-  pub over_slots_lem : (n : ℕ) → Mem n roots → (js : List ℕ) (seen : List Slot) (b : Choice) → ((j : ℕ) → Mem j js → (row_in (fields_at work n) ≤ j) × (j < m))
+  pub over_slots_lem : (n : ℕ) → Mem n roots → (js : List ℕ) (seen : List Slot) (b : Option Choice) → ((j : ℕ) → Mem j js → (row_in (fields_at work n) ≤ j) × (j < m))
       → ChosenOf m work roots seen b → ChosenOf m work roots (seen ++ each (slot_here m (fields_at work n)) js) (over_slots work n js b)
   over_slots_lem n root [] seen b g h = subst (λ (l : List Slot). ChosenOf m work roots l b) (sym (append-nil seen)) h
   over_slots_lem n root (j ∷ js) seen b g h =

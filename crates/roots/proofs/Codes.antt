@@ -12,20 +12,19 @@ use borrow.Author.Tests.{lt-ltb, le-ltb}
 use Rattle.records.specs.Record.{fields_at, tournament_in, Wrote}
 use Rattle.roots.specs.Tournament.{code_of, choice_of, slot_code, slot_choice, win_at, own_at, win_below, Below, Of, WordPut}
 use Rattle.roots.specs.declared.Choice.{Choice}
-use Rattle.roots.specs.declared.Choice.TheVariants.{Nothing, Slot as Chosen}
 use Rattle.roots.proofs.Filling.{fields_long}
 
 -- WRITTEN AND READ BACK
-choice_code : (latest : ℕ) (b : Choice) → Below latest b → choice_of (code_of b) ≡ b
-choice_code latest Nothing h = refl
-choice_code latest (Chosen n j) h =
-    let e : (16 * n + j) / 16 ≡ n = omega (arith, h.1) in
-    let f : (16 * n + j) % 16 ≡ j = omega (arith, h.1) in
-    rw (add-one (16 * n + j), e, f)
+choice_code : (latest : ℕ) (b : Option Choice) → Below latest b → choice_of (code_of b) ≡ b
+choice_code latest None h = refl
+choice_code latest (Some c) h =
+    let e : (16 * c.n + c.j) / 16 ≡ c.n = omega (arith, h.1) in
+    let f : (16 * c.n + c.j) % 16 ≡ c.j = omega (arith, h.1) in
+    rw (add-one (16 * c.n + c.j), e, f)
 
-slot_code_lem : (k : ℕ) (b : Choice) → Of k b → slot_choice k (slot_code b) ≡ b
-slot_code_lem k Nothing h = refl
-slot_code_lem k (Chosen n j) h = rw (add-one j, h.0)
+slot_code_lem : (k : ℕ) (b : Option Choice) → Of k b → slot_choice k (slot_code b) ≡ b
+slot_code_lem k None h = refl
+slot_code_lem k (Some c) h = rw (add-one c.j, h.0)
 
 -- READ
 pub some_choice : (c : ℕ) → c ≢ 0 → Chosen ((c - 1) / 16) ((c - 1) % 16) ≡ choice_of c
@@ -34,7 +33,7 @@ some_choice c ne =
     sym (ap choice_of e)
 
 module _ (work : List ℕ) (k : ℕ) where
-  pub no_own : (q : ℕ) → q ≡ tournament_in (fields_at work k) → q % 16 ≡ 0 → Nothing ≡ own_at work k
+  pub no_own : (q : ℕ) → q ≡ tournament_in (fields_at work k) → q % 16 ≡ 0 → None ≡ own_at work k
   unfolding own_at
   no_own q e z = rw (← e, z)
 
@@ -48,11 +47,11 @@ module _ (work : List ℕ) (k : ℕ) where
   unfolding win_below
   below_yes latest h = rw (lt-ltb k latest h)
 
-  pub below_no : (latest : ℕ) → latest ≤ k → win_below work latest k ≡ Nothing
+  pub below_no : (latest : ℕ) → latest ≤ k → win_below work latest k ≡ None
   unfolding win_below
   below_no latest h = rw (le-ltb k latest h)
 
-  pub win_read : (latest q : ℕ) (r : Choice) → k < latest → q ≡ tournament_in (fields_at work k) → r ≡ choice_of (q / 16) → r ≡ win_below work latest k
+  pub win_read : (latest q : ℕ) (r : Option Choice) → k < latest → q ≡ tournament_in (fields_at work k) → r ≡ choice_of (q / 16) → r ≡ win_below work latest k
   unfolding win_at
   win_read latest q r h e f = f ∙ ap (λ (x : ℕ). choice_of (x / 16)) e ∙ sym (below_yes latest h)
 
@@ -78,7 +77,7 @@ module _ (before after : List ℕ) (k v : ℕ) (u : Wrote before after k (set (f
       go (yes e) = rw e (ap (λ (l : List (List ℕ)). get_or l f []) u.here ∙ get_or-set_other (fields_at before k) 5 f (v ∷ []) [] ne)
       go (no e) = ap (λ (l : List (List ℕ)). get_or l f []) (u.records i e)
 
-  pub word_put : (win own : Choice) → Below 4097 win → Of k own → k < 4097 → v ≡ 16 * code_of win + slot_code own → WordPut before after k win own
+  pub word_put : (win own : Option Choice) → Below 4097 win → Of k own → k < 4097 → v ≡ 16 * code_of win + slot_code own → WordPut before after k win own
   unfolding win_at own_at
   word_put win own h o l e =
       record {
@@ -89,9 +88,9 @@ module _ (before after : List ℕ) (k v : ℕ) (u : Wrote before after k (set (f
         owns = λ i ne. ap (λ (l : List (List ℕ)). slot_choice i (tournament_in l % 16)) (u.records i ne);
       }
     where
-      small : (b : Choice) → Of k b → slot_code b < 16
-      small Nothing h = omega arith
-      small (Chosen n j) h = omega (arith, h.1)
+      small : (b : Option Choice) → Of k b → slot_code b < 16
+      small None h = omega arith
+      small (Some c) h = omega (arith, h.1)
 
       high : (16 * code_of win + slot_code own) / 16 ≡ code_of win
       high = omega (arith, small own o)

@@ -16,7 +16,6 @@ use Rattle.records.specs.Record.{fields_at}
 use Rattle.roots.specs.Slots.{PartsHold, RootMade}
 use Rattle.roots.specs.Choices.{Live, Cleared}
 use Rattle.roots.specs.Tournament.{own_at, best_own, Played, Tournament, Entered, SlotsHold, FirstSlot}
-use Rattle.roots.specs.declared.Choice.TheVariants.{Nothing, Slot as Chosen}
 use Rattle.roots.proofs.Codes.{win_kept, own_kept}
 use Rattle.roots.proofs.Playing.{SameOrder, played_on, best_same, only_best}
 use Rattle.roots.proofs.Taken.{taken_tournament, taken_order}
@@ -24,12 +23,12 @@ use Rattle.roots.proofs.Begun.{parts_kept, only_alike}
 
 -- the roots are `made` and some older ones; the own choices of these but root n are right already
 module _ (m : ℕ) (after final : List ℕ) (latest made n : ℕ) (old : List ℕ) (le : latest ≤ made) (low : (k : ℕ) → Mem k old → k < latest) (falls : Sorted (λ x y. y < x) old) (member : Mem n (made ∷ old))
-    (known : (k : ℕ) → Mem k old → k ≢ n → own_at after k ≡ best_own m after k) (none : (k : ℕ) → k < latest → (own_at after k ≡ Nothing) ⊎ Mem k old) (E : Entered m after final latest made n) where
+    (known : (k : ℕ) → Mem k old → k ≢ n → own_at after k ≡ best_own m after k) (none : (k : ℕ) → k < latest → (own_at after k ≡ None) ⊎ Mem k old) (E : Entered m after final latest made n) where
   old_own : (k : ℕ) → Mem k old → Dec (k ≡ n) → own_at final k ≡ best_own m final k
   old_own k j (yes e) = rw e E.taken
   old_own k j (no e) = E.old k (low k j) e (λ z. omega (arith, low k j)) ∙ known k j e ∙ sym (only_best after final (made + 1) E.same m k)
 
-  other : (k : ℕ) → k < made + 1 → Dec (k ≡ made) → Dec (k ≡ n) → (own_at final k ≡ Nothing) ⊎ Mem k (made ∷ old)
+  other : (k : ℕ) → k < made + 1 → Dec (k ≡ made) → Dec (k ≡ n) → (own_at final k ≡ None) ⊎ Mem k (made ∷ old)
   other k l (yes e) d = inr (subst (λ (x : ℕ). Mem x (made ∷ old)) (sym e) (here refl))
   other k l (no e) (yes z) = inr (subst (λ (x : ℕ). Mem x (made ∷ old)) (sym z) member)
   other k l (no e) (no z) = ⊎_elim
@@ -86,7 +85,7 @@ module _ (m : ℕ) (table before mid : List ℕ) (latest made n j : ℕ) (rest :
           own_kept before after k (tournament_kept k (H.low k i)) ∙ H.tournament.own k i
           ∙ sym (best_same before after k (ap (λ (fs : List (List ℕ)). get_or fs 6 []) e) m (ap (λ (fs : List (List ℕ)). get_or fs 4 []) e))
 
-      none : (k : ℕ) → k < latest → (own_at after k ≡ Nothing) ⊎ Mem k H.roots
+      none : (k : ℕ) → k < latest → (own_at after k ≡ None) ⊎ Mem k H.roots
       none k l = ⊎_elim (λ e. inl (own_kept before after k (tournament_kept k l) ∙ e)) inr (H.tournament.others k l)
 
 -- THE FIRST ROOT

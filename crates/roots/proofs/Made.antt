@@ -33,7 +33,6 @@ use Rattle.records.proofs.Words.{bytes_same}
 use Rattle.roots.specs.Slots.{slot_of, slot_here, root_slots, slots_at, SlotFor, PartKept, Rooted, PartsHold, RootMade}
 use Rattle.roots.specs.Choices.{Live, part_of, Cleared}
 use Rattle.roots.specs.Tournament.{SlotsHold, FirstSlot, NextTaken}
-use Rattle.roots.specs.declared.Choice.TheVariants.{Nothing, Slot as Chosen}
 use Rattle.roots.specs.declared.RootPart.{RootPart}
 use Rattle.roots.proofs.Chosen.{list_bytes, live_unbarred, live_list}
 use Rattle.roots.proofs.Parts.{byte_at}
@@ -265,5 +264,5 @@ first_made m table before after final a pos small e entered u =
     }
 
 -- without a slot none remains
-pub nothing_left : (m : ℕ) (table work : List ℕ) (latest : ℕ) (rest : List (List ℕ)) → m ≤ 12 → SlotsHold m table work latest rest → FirstSlot m work latest Nothing → rest ≡ []
+pub nothing_left : (m : ℕ) (table work : List ℕ) (latest : ℕ) (rest : List (List ℕ)) → m ≤ 12 → SlotsHold m table work latest rest → FirstSlot m work latest None → rest ≡ []
 nothing_left m table work latest rest small H chosen = none_remains m small table rest (subst (λ (l : List Slot). Holds m table l rest) (chosen table rest H) H.parts.holds)

@@ -8,12 +8,11 @@ use native.Mathlib.Decide.{ℕ_discrete}
 use Rattle.prices.proofs.Growth.{lower}
 use Rattle.roots.specs.Tournament.{win_at, own_at, win_below, first_here, best_own, Below, Of, Named, PlayedBut, Played, OnlyTournament, WordPut, Replayed, Refreshed, Emptied, Entered}
 use Rattle.roots.specs.declared.Choice.{Choice}
-use Rattle.roots.specs.declared.Choice.TheVariants.{Nothing}
 use Rattle.roots.proofs.Codes.{below_yes, below_no}
 use Rattle.roots.proofs.Playing.{below_here, here_same, played_on, only_none, only_wider, only_then, only_order, only_best}
 
 -- A WORD IS PUT ANEW
-module _ (before after : List ℕ) (latest k : ℕ) (l : k < latest) (win own : Choice) (N : Named before latest) (u : WordPut before after k win own) where
+module _ (before after : List ℕ) (latest k : ℕ) (l : k < latest) (win own : Option Choice) (N : Named before latest) (u : WordPut before after k win own) where
   put_same : OnlyTournament before after latest
   put_same = only_wider before after (k + 1) latest (omega arith) u.same
 
@@ -99,7 +98,7 @@ module _ (before work after : List ℕ) (latest at : ℕ) (C : Replaying before 
       }
 
 -- THE OWN CHOICE OF A NUMBER IS FOUND ANEW
-module _ (m : ℕ) (before mid : List ℕ) (latest n : ℕ) (l : n < latest) (win own : Choice) (w : win ≡ win_below before latest n) (P : Played before latest) (o : Of n own) (u : WordPut before mid n win own) where
+module _ (m : ℕ) (before mid : List ℕ) (latest n : ℕ) (l : n < latest) (win own : Option Choice) (w : win ≡ win_below before latest n) (P : Played before latest) (o : Of n own) (u : WordPut before mid n win own) where
   pub found_but : PlayedBut mid latest n
   found_but =
       record {
@@ -137,7 +136,7 @@ empty_none work from =
       new_own = λ k a b. absurd (omega arith);
     }
 
-pub empty_more : (before work after : List ℕ) (from k : ℕ) → from ≤ k → Emptied before work from k → WordPut work after k Nothing Nothing → Emptied before after from (k + 1)
+pub empty_more : (before work after : List ℕ) (from k : ℕ) → from ≤ k → Emptied before work from k → WordPut work after k None None → Emptied before after from (k + 1)
 empty_more before work after from k l E u =
     record {
       same = only_then before work after (k + 1) (only_wider before work k (k + 1) (omega arith) E.same) u.same;
@@ -147,11 +146,11 @@ empty_more before work after from k l E u =
       new_own = λ i a b. own i a b (ℕ_discrete i k);
     }
   where
-    win : (i : ℕ) → from ≤ i → i < k + 1 → Dec (i ≡ k) → win_at after i ≡ Nothing
+    win : (i : ℕ) → from ≤ i → i < k + 1 → Dec (i ≡ k) → win_at after i ≡ None
     win i a b (yes e) = rw e u.win_here
     win i a b (no e) = u.wins i e ∙ E.new_win i a (omega (arith, e))
 
-    own : (i : ℕ) → from ≤ i → i < k + 1 → Dec (i ≡ k) → own_at after i ≡ Nothing
+    own : (i : ℕ) → from ≤ i → i < k + 1 → Dec (i ≡ k) → own_at after i ≡ None
     own i a b (yes e) = rw e u.own_here
     own i a b (no e) = u.owns i e ∙ E.new_own i a (omega (arith, e))
 

@@ -22,43 +22,42 @@ use Rattle.roots.specs.Slots.{slot_of, root_slots, slots_at, PartsHold}
 use Rattle.roots.specs.Choices.{slot_before, Live, ChosenOf}
 use Rattle.roots.specs.Tournament.{own_at, win_below, first_choice, first_here, best_own, Tournament}
 use Rattle.roots.specs.declared.Choice.{Choice}
-use Rattle.roots.specs.declared.Choice.TheVariants.{Nothing, Slot as Chosen}
 use Rattle.roots.proofs.Chosen.{over_slots_lem, first_of_two}
 use Rattle.roots.proofs.Codes.{below_yes, below_no}
 
 module _ (m : ℕ) (work roots : List ℕ) where
   -- a choice is none, or one of the slots
-  abbrev LiveChoice : Choice → Type 0
-  LiveChoice Nothing = Unit {0}
-  LiveChoice (Chosen n j) = Live m work roots n j
+  abbrev LiveChoice : Option Choice → Type 0
+  LiveChoice None = Unit {0}
+  LiveChoice (Some c) = Live m work roots c.n c.j
 
-  chosen_live : (slots : List Slot) (b : Choice) → ChosenOf m work roots slots b → LiveChoice b
-  chosen_live slots Nothing h = tt
-  chosen_live slots (Chosen n j) h = h.0
+  chosen_live : (slots : List Slot) (b : Option Choice) → ChosenOf m work roots slots b → LiveChoice b
+  chosen_live slots None h = tt
+  chosen_live slots (Some c) h = h.0
 
   -- a slot alone
   alone : (n j : ℕ) → Live m work roots n j → ChosenOf m work roots (slot_of m (fields_at work n) j ∷ []) (Chosen n j)
   alone n j v = (v, λ table rest small H t i. inl (ap (λ (s : Slot). s.first) (only i)))
 
-  none_before : (slots : List Slot) (b : Choice) → slots ≡ [] → LiveChoice b → ChosenOf m work roots slots b
-  none_before slots Nothing e v = e
-  none_before slots (Chosen n j) e v = (v, λ table rest small H t i. absurd (not-nil (subst (Mem t) e i)))
+  none_before : (slots : List Slot) (b : Option Choice) → slots ≡ [] → LiveChoice b → ChosenOf m work roots slots b
+  none_before slots None e v = e
+  none_before slots (Some c) e v = (v, λ table rest small H t i. absurd (not-nil (subst (Mem t) e i)))
 
   -- what is chosen of some slots is so of one of them
-  of_one : (slots : List Slot) (s : Slot) (b : Choice) → Mem s slots → ChosenOf m work roots slots b → ChosenOf m work roots (s ∷ []) b
-  of_one slots s Nothing i h = absurd (not-nil (subst (Mem s) h i))
-  of_one slots s (Chosen n j) i h = (h.0, λ table rest small H t k. subst (λ (x : Slot). (x.first ≡ take m (slot_tasks_in (fields_at work n) j)) ⊎ Less m table (take m (slot_tasks_in (fields_at work n) j)) x.first) (sym (only k)) (h.1 table rest small H s i))
+  of_one : (slots : List Slot) (s : Slot) (b : Option Choice) → Mem s slots → ChosenOf m work roots slots b → ChosenOf m work roots (s ∷ []) b
+  of_one slots s None i h = absurd (not-nil (subst (Mem s) h i))
+  of_one slots s (Some c) i h = (h.0, λ table rest small H t k. subst (λ (x : Slot). (x.first ≡ take m (slot_tasks_in (fields_at work c.n) c.j)) ⊎ Less m table (take m (slot_tasks_in (fields_at work c.n) c.j)) x.first) (sym (only k)) (h.1 table rest small H s i))
 
   -- a choice that is no later than the chosen one
-  no_later : (slots : List Slot) (n j : ℕ) (b : Choice) → ChosenOf m work roots slots (Chosen n j) → ChosenOf m work roots (slot_of m (fields_at work n) j ∷ []) b → ChosenOf m work roots slots b
-  no_later slots n j Nothing h g = absurd (not-nil (subst (Mem (slot_of m (fields_at work n) j)) g (here refl)))
-  no_later slots n j (Chosen p q) h g = (g.0, λ table rest small H t i. join table t.first (g.1 table rest small H (slot_of m (fields_at work n) j) (here refl)) (h.1 table rest small H t i))
+  no_later : (slots : List Slot) (n j : ℕ) (b : Option Choice) → ChosenOf m work roots slots (Chosen n j) → ChosenOf m work roots (slot_of m (fields_at work n) j ∷ []) b → ChosenOf m work roots slots b
+  no_later slots n j None h g = absurd (not-nil (subst (Mem (slot_of m (fields_at work n) j)) g (here refl)))
+  no_later slots n j (Some c) h g = (g.0, λ table rest small H t i. join table t.first (g.1 table rest small H (slot_of m (fields_at work n) j) (here refl)) (h.1 table rest small H t i))
     where
       a : List ℕ
       a = take m (slot_tasks_in (fields_at work n) j)
 
       b : List ℕ
-      b = take m (slot_tasks_in (fields_at work p) q)
+      b = take m (slot_tasks_in (fields_at work c.n) c.j)
 
       join : (table x : List ℕ) → (a ≡ b) ⊎ Less m table b a → (x ≡ a) ⊎ Less m table a x → (x ≡ b) ⊎ Less m table b x
       join table x (inl e) (inl f) = inl (f ∙ e)
@@ -72,37 +71,37 @@ module _ (m : ℕ) (work roots : List ℕ) where
   both n j p q v w =
       first_of_two m work roots n j (slot_of m (fields_at work p) q ∷ []) v.root v.low v.high p q v (alone p q w) (slot_before (fields_at work n) j (fields_at work p) q) refl
 
-  first_live : (a b : Choice) → LiveChoice a → LiveChoice b → LiveChoice (first_choice work a b)
-  first_live Nothing b x y = y
-  first_live (Chosen n j) Nothing x y = x
-  first_live (Chosen n j) (Chosen p q) x y =
-      chosen_live (slot_of m (fields_at work p) q ∷ slot_of m (fields_at work n) j ∷ []) (first_choice work (Chosen n j) (Chosen p q)) (both n j p q x y)
+  first_live : (a b : Option Choice) → LiveChoice a → LiveChoice b → LiveChoice (first_choice work a b)
+  first_live None b x y = y
+  first_live (Some c) None x y = x
+  first_live (Some c) (Some d) x y =
+      chosen_live (slot_of m (fields_at work d.n) d.j ∷ slot_of m (fields_at work c.n) c.j ∷ []) (first_choice work (Chosen c.n c.j) (Chosen d.n d.j)) (both c.n c.j d.n d.j x y)
 
-  over_second : (slots : List Slot) (a b : Choice) → LiveChoice a → ChosenOf m work roots slots b → ChosenOf m work roots slots (first_choice work a b)
-  over_second slots Nothing b v h = h
-  over_second slots (Chosen n j) Nothing v h = none_before slots (Chosen n j) h v
-  over_second slots (Chosen n j) (Chosen p q) v h =
-      no_later slots p q (first_choice work (Chosen n j) (Chosen p q)) h
-      (of_one (slot_of m (fields_at work p) q ∷ slot_of m (fields_at work n) j ∷ []) (slot_of m (fields_at work p) q) (first_choice work (Chosen n j) (Chosen p q)) (here refl) (both n j p q v h.0))
+  over_second : (slots : List Slot) (a b : Option Choice) → LiveChoice a → ChosenOf m work roots slots b → ChosenOf m work roots slots (first_choice work a b)
+  over_second slots None b v h = h
+  over_second slots (Some c) None v h = none_before slots (Chosen c.n c.j) h v
+  over_second slots (Some c) (Some d) v h =
+      no_later slots d.n d.j (first_choice work (Chosen c.n c.j) (Chosen d.n d.j)) h
+      (of_one (slot_of m (fields_at work d.n) d.j ∷ slot_of m (fields_at work c.n) c.j ∷ []) (slot_of m (fields_at work d.n) d.j) (first_choice work (Chosen c.n c.j) (Chosen d.n d.j)) (here refl) (both c.n c.j d.n d.j v h.0))
 
-  over_first : (slots : List Slot) (a b : Choice) → ChosenOf m work roots slots a → LiveChoice b → ChosenOf m work roots slots (first_choice work a b)
-  over_first slots Nothing b h v = none_before slots b h v
-  over_first slots (Chosen n j) Nothing h v = h
-  over_first slots (Chosen n j) (Chosen p q) h v =
-      no_later slots n j (first_choice work (Chosen n j) (Chosen p q)) h
-      (of_one (slot_of m (fields_at work p) q ∷ slot_of m (fields_at work n) j ∷ []) (slot_of m (fields_at work n) j) (first_choice work (Chosen n j) (Chosen p q)) (there (here refl)) (both n j p q h.0 v))
+  over_first : (slots : List Slot) (a b : Option Choice) → ChosenOf m work roots slots a → LiveChoice b → ChosenOf m work roots slots (first_choice work a b)
+  over_first slots None b h v = none_before slots b h v
+  over_first slots (Some c) None h v = h
+  over_first slots (Some c) (Some d) h v =
+      no_later slots c.n c.j (first_choice work (Chosen c.n c.j) (Chosen d.n d.j)) h
+      (of_one (slot_of m (fields_at work d.n) d.j ∷ slot_of m (fields_at work c.n) c.j ∷ []) (slot_of m (fields_at work c.n) c.j) (first_choice work (Chosen c.n c.j) (Chosen d.n d.j)) (there (here refl)) (both c.n c.j d.n d.j h.0 v))
 
   -- what is chosen of each of some lists
-  of_each : (F : ℕ → List Slot) (ns : List ℕ) (b : Choice) → LiveChoice b → ((n : ℕ) → Mem n ns → ChosenOf m work roots (F n) b) → ChosenOf m work roots (each F ns) b
-  of_each F ns Nothing v h = none ns h
+  of_each : (F : ℕ → List Slot) (ns : List ℕ) (b : Option Choice) → LiveChoice b → ((n : ℕ) → Mem n ns → ChosenOf m work roots (F n) b) → ChosenOf m work roots (each F ns) b
+  of_each F ns None v h = none ns h
     where
       none : (ns : List ℕ) → ((n : ℕ) → Mem n ns → F n ≡ []) → each F ns ≡ []
       none [] h = refl
       none (n ∷ ns) h = rw (h n (here refl)) (none ns (λ i k. h i (there k)))
-  of_each F ns (Chosen p q) v h = (v, λ table rest small H t i. one table rest small H t ns h i)
+  of_each F ns (Some c) v h = (v, λ table rest small H t i. one table rest small H t ns h i)
     where
-      one : (table : List ℕ) (rest : List (List ℕ)) → m ≤ 12 → PartsHold m table work roots rest → (t : Slot) (ns : List ℕ) → ((n : ℕ) → Mem n ns → ChosenOf m work roots (F n) (Chosen p q)) → Mem t (each F ns)
-          → (t.first ≡ take m (slot_tasks_in (fields_at work p) q)) ⊎ Less m table (take m (slot_tasks_in (fields_at work p) q)) t.first
+      one : (table : List ℕ) (rest : List (List ℕ)) → m ≤ 12 → PartsHold m table work roots rest → (t : Slot) (ns : List ℕ) → ((n : ℕ) → Mem n ns → ChosenOf m work roots (F n) (Chosen c.n c.j)) → Mem t (each F ns)
+          → (t.first ≡ take m (slot_tasks_in (fields_at work c.n) c.j)) ⊎ Less m table (take m (slot_tasks_in (fields_at work c.n) c.j)) t.first
       one table rest small H t [] h i = absurd (not-nil i)
       one table rest small H t (n ∷ ns) h i = ⊎_elim
           (λ k. (h n (here refl)).1 table rest small H t k)
@@ -115,7 +114,7 @@ module _ (m : ℕ) (work roots : List ℕ) where
     root_chosen n i =
         let k : ℕ = row_in (fields_at work n) in
         subst (ChosenOf m work roots (root_slots m (fields_at work n))) (sym (T.own n i))
-        (over_slots_lem m work roots n i (count_from k (m - k)) [] Nothing (λ j x. let y = mem_count_from k (m - k) x in (y.0, omega (arith, y.0, y.1))) refl)
+        (over_slots_lem m work roots n i (count_from k (m - k)) [] None (λ j x. let y = mem_count_from k (m - k) x in (y.0, omega (arith, y.0, y.1))) refl)
 
     own_live : (k : ℕ) → k < latest → LiveChoice (own_at work k)
     own_live k l = ⊎_elim
