@@ -1,21 +1,12 @@
 -- Prices that serve the least assignment: those of the solver on plain weights, or rounded ones that pass the test. Row plus column
 -- price is then at most each entry that is not barred, and equals it on the chosen ones. Assumes nothing.
-use Prim.Native.Nat.{ℕ, ◌+◌, ◌≤◌, ◌<◌}
-use mathlib.Core.Path.{◌≡◌, refl, sym, ap, subst, ◌∙◌}
-use mathlib.Core.Logic.{◌⊎◌, inl, inr, ⊎_elim, ◌≢◌}
-use mathlib.Core.Bool.{true, false}
-use mathlib.Core.List.{List, map}
-use Rattle.std.specs.Prelude.{Some}
-use native.Mathlib.Omega.{arith}
-use lib.ListN.{get_or, take, get_or-append}
-use lib.IntN.{ℤ, pos, neg_ℤ, ◌+ℤ◌, ◌-ℤ◌, -ℤ-+ℤ_cancel}
-use lib.Signed.{◌≤ℤ◌}
-use Rattle.deck.specs.Lists.{below, sum}
+use Rattle.std.proofs.Common.{ℕ, ◌+◌, ◌≤◌, ◌<◌, ◌≡◌, sym, ap, subst, ◌∙◌, ◌⊎◌, inl, inr, ⊎_elim, ◌≢◌, false, List, Some, arith, get_or, take, ℤ, pos, ◌+ℤ◌, ◌-ℤ◌, ◌≤ℤ◌}
+use lib.ListN.{get_or-append}
+use lib.IntN.{ℤ, -ℤ-+ℤ_cancel}
 use Rattle.deck.specs.Assignments.{barred, entry_at, sum_of, least_assignment}
-use Rattle.deck.specs.Calls.{task_list, assignment_kind, assignment_tasks}
-use Rattle.deck.specs.declared.AssignmentKind.TheVariants.{Least}
+use Rattle.deck.specs.Calls.{task_list}
 use Rattle.meaning.specs.Meaning.{◌at◌, Assignment, Unbarred, Less}
-use Rattle.meaning.proofs.Assignments.{least_assignment_meant, sum_at}
+use Rattle.meaning.proofs.Assignments.{least_assignment_meant}
 use Rattle.prices.specs.Matching.{cost, AtMost}
 use Rattle.prices.specs.Weights.{heavy, weigh, weights}
 use Rattle.prices.specs.Square.{cell, copied}
@@ -23,9 +14,9 @@ use Rattle.prices.proofs.Squares.{square_at}
 use Rattle.prices.proofs.Growth.{lower}
 use Rattle.prices.proofs.Duality.{least_tight}
 use Rattle.prices.proofs.First.{weigh_open, light_unbarred, unbarred_cost, unbarred_light}
-use Rattle.hungarian.specs.Solving.{by_carrier, by_task, Solved}
+use Rattle.hungarian.specs.Solving.{Solved}
 use Rattle.tables.specs.Copies.{Weighed}
-use Rattle.assignment.specs.Answers.{dearest, highest, plain_of, row_of, column_of, tight_of, Prices, Serves, Handed, Chosen, Answered}
+use Rattle.assignment.specs.Answers.{dearest, highest, rounded, row_of, column_of, rounded_column, tight_of, Prices, Serves, Handed}
 use Rattle.candidates.proofs.Firsts.{weigh_low, copied_at, copied_words, weights_cost, solved_assignment, solved_tight}
 use Rattle.assignment.proofs.Priced.{neg_below, dual_le, dual_tight}
 
@@ -86,19 +77,16 @@ module _ (m : ℕ) (small : m ≤ 12) (t w u v task carrier : List ℕ) (W : Wei
     solved_low k lk = let p = prices_low k lk in (omega arith, omega arith)
 
 -- THE SECOND RUN'S PRICES, as they are handed out
-module _ (m : ℕ) (table prices kept a : List ℕ) (least : least_assignment m table ≡ Some a) (P : Serves m table a (by_carrier prices) (by_task prices)) (same : (k : ℕ) → k < m → kept at k ≡ by_task prices at k)
-    (rows columns : List ℤ) (R : Prices m highest (row_of prices) rows) (C : Prices m dearest (column_of false kept) columns) where
-  column : (k : ℕ) → k < m → get_or columns k (pos 0) ≡ neg_ℤ (pos (by_task prices at k))
-  column k lk = C.each k lk ∙ ap (λ (x : ℕ). neg_ℤ (pos x)) (same k lk)
-
+module _ (m : ℕ) (table u v a : List ℕ) (least : least_assignment m table ≡ Some a) (P : Serves m table a u v)
+    (rows columns : List ℤ) (R : Prices m highest (row_of u) rows) (C : Prices m dearest (column_of v) columns) where
   pub solved_handed : Handed m table a rows columns
   solved_handed = record {
     priced = record {
-      feasible = λ i j li lj n. rw (R.each i li, column j lj)
-          (dual_le (by_carrier prices at i) (by_task prices at j) (entry_at m table i j) (omega (arith, P.feasible i j li lj, weigh_open (entry_at m table i j) n)));
-      tight = λ i li. rw (R.each i li, column (a at i) ((least_assignment_meant m table a least).0.0.tasks i li))
-          (dual_tight (by_carrier prices at i) (by_task prices at (a at i)) (entry_at m table i (a at i)) (P.tight i li));
-      below = λ j lj. rw (column j lj) (neg_below (by_task prices at j));
+      feasible = λ i j li lj n. rw (R.each i li, C.each j lj)
+          (dual_le (u at i) (v at j) (entry_at m table i j) (omega (arith, P.feasible i j li lj, weigh_open (entry_at m table i j) n)));
+      tight = λ i li. rw (R.each i li, C.each (a at i) ((least_assignment_meant m table a least).0.0.tasks i li))
+          (dual_tight (u at i) (v at (a at i)) (entry_at m table i (a at i)) (P.tight i li));
+      below = λ j lj. rw (C.each j lj) (neg_below (v at j));
     };
     small = (R.small, C.small);
     zero = (R.zero, C.zero);
@@ -115,7 +103,7 @@ module _ (m : ℕ) (t tasks a : List ℕ) (least : least_assignment m (copied m 
   pub tasks_few : (i : ℕ) → i < m → tasks at i < m
   tasks_few i li = omega (arith, tasks_at i li, meant.0.tasks i li)
 
-  module _ (merged : List ℕ) (rows columns : List ℤ) (C : Prices m dearest (column_of true merged) columns) (R : Prices m highest (tight_of t tasks columns) rows)
+  module _ (merged : List ℕ) (rows columns : List ℤ) (C : Prices m dearest (rounded_column merged) columns) (R : Prices m highest (tight_of t tasks columns) rows)
       (F : (i j : ℕ) → i < m → j < m → (get_or rows i (pos 0) +ℤ get_or columns j (pos 0)) ≤ℤ pos (weigh (cell t i j))) where
     rounded_feasible : (i j : ℕ) → i < m → j < m → entry_at m (copied m t) i j ≢ barred → (get_or rows i (pos 0) +ℤ get_or columns j (pos 0)) ≤ℤ pos (entry_at m (copied m t) i j)
     rounded_feasible i j li lj n =
@@ -131,33 +119,7 @@ module _ (m : ℕ) (t tasks a : List ℕ) (least : least_assignment m (copied m 
 
     pub rounded_handed : Handed m (copied m t) a rows columns
     rounded_handed = record {
-      priced = record { feasible = rounded_feasible; tight = rounded_tight; below = λ j lj. rw (C.each j lj) (neg_below (plain_of true (merged at j))) };
+      priced = record { feasible = rounded_feasible; tight = rounded_tight; below = λ j lj. rw (C.each j lj) (neg_below (rounded (merged at j))) };
       small = (R.small, C.small);
       zero = (R.zero, C.zero);
     }
-
--- THE ANSWER
-module _ (m : ℕ) (table a : List ℕ) (least : least_assignment m table ≡ Some a) (rows columns : List ℤ) (H : Handed m table a rows columns) where
-  open_least : Unbarred m table a
-  open_least = (least_assignment_meant m table a least).0
-
-  task_at : (i : ℕ) → i < m → task_list a at i ≡ a at i
-  task_at i li = get_or-append a _ 0 i (rw open_least.0.as_many li)
-
-  -- the prices of the chosen entries add up to the sum
-  pub prices_chosen : Chosen m rows columns (task_list a) (λ i. entry_at m table i (a at i))
-  prices_chosen = record {
-    low = λ i li. rw (task_at i li) (open_least.0.tasks i li);
-    priced = λ i li. rw (task_at i li) (H.priced.tight i li);
-    small = H.small;
-  }
-
-  -- THE WHOLE ANSWER
-  pub answered : (s : ℕ) → s ≡ sum (map (λ i. entry_at m table i (a at i)) (below m))
-      → Answered m table (record { kind = Least s; tasks = task_list a; rows = rows; columns = columns })
-  unfolding assignment_kind assignment_tasks
-  answered s e = record {
-    kind = rw least (ap Least (e ∙ sym (sum_at m table a open_least.0.as_many)));
-    tasks = rw least refl;
-    prices = rw least (H.priced, H.zero.0, H.zero.1);
-  }

@@ -1,22 +1,12 @@
 -- Prices as signed numbers: what is within their range, and the condition that prices have to keep. Assumes nothing.
-use Prim.Native.Nat.{ℕ, zero, suc, ◌+◌, ◌-◌, ◌≤◌, ◌<◌}
-use mathlib.Core.Path.{◌≡◌, refl, sym, ap, subst, ◌∙◌}
-use mathlib.Core.Logic.{⊎_elim}
-use mathlib.Core.Bool.{Bool, true, false, cond}
-use mathlib.Core.List.{List}
-use native.Mathlib.Nat.{eq-or-lt_of_le, le_of_suc-le-suc, not-suc-le-zero}
-use native.Mathlib.Numerals.{add-one}
-use native.Mathlib.Omega.{arith}
-use lib.ListN.{length, get_or, set, replicate, length-set, get_or-replicate}
-use lib.Seq.{get_or-set_same, get_or-set_other}
-use lib.IntN.{ℤ, pos, negsuc, neg_ℤ, sub_ℕ, ◌+ℤ◌, ◌-ℤ◌, +ℤ_idl}
-use lib.Signed.{mag, ◌≤ℤ◌, le_z_yes}
-use lib.Dec.{ltb, le→leb}
-use borrow.Author.Tests.{le-ltb}
-use mir.Syntax.{w32}
-use mir.Val.{SFits, to_z}
-use mir.ValLaws.{to_z_pos}
-use Rattle.assignment.specs.Answers.{dearest, Prices}
+use Rattle.std.proofs.Common.{zero-le, true, ℕ, zero, suc, ◌+◌, ◌-◌, ◌≤◌, ◌<◌, ◌≡◌, refl, sym, ap, subst, ◌∙◌, ⊎_elim, Bool, true, false, cond, List, eq-or-lt_of_le, le_of_suc-le-suc, add-one, arith, length, get_or, set, length-set, get_or-set_same, get_or-set_other, ℤ, pos, negsuc, neg_ℤ, ◌+ℤ◌, ◌-ℤ◌, ◌≤ℤ◌, ltb, le→leb, le-ltb, w32, SFits}
+use lib.IntN.{sub_ℕ}
+use lib.Signed.{mag, le_z_yes}
+use Rattle.std.specs.List.{AllWithin, range_with_len}
+use Rattle.std.specs.Bool.{MatchBool}
+use Rattle.std.proofs.lemmas.List.FromFn.{get_or-range_with_len, length-range_with_len}
+use Rattle.deck.specs.Calls.{ZeroFrom}
+use Rattle.assignment.specs.Answers.{Prices}
 
 -- what is small fits 32 bits
 pub small_fits : (z : ℤ) → mag z ≤ 9000000 → SFits w32 z
@@ -51,36 +41,32 @@ pub neg_below : (x : ℕ) → neg_ℤ (pos x) ≤ℤ pos 0
 neg_below zero = le_z_yes tt
 neg_below (suc x) = le_z_yes tt
 
--- as the machine makes them
-pub plain_price : (x : ℕ) → x ≤ 9000000 → to_z w32 x ≡ pos x
-plain_price x h = to_z_pos w32 x (omega arith)
-
-pub negated_price : (x : ℕ) → x ≤ dearest → (pos 0 -ℤ to_z w32 x) ≡ neg_ℤ (pos x)
-negated_price x h = +ℤ_idl (neg_ℤ (to_z w32 x)) ∙ ap neg_ℤ (plain_price x (omega arith))
-
--- the first n prices are made, the others are 0
-pub record PricesTo (top : ℕ) (f : ℕ → ℤ) (n : ℕ) (r : List ℤ) : Type 0 where
+-- the first n prices meet P, the others are 0
+pub record PricesTo (P : ℕ → ℤ → Type 0) (n : ℕ) (r : List ℤ) : Type 0 where
   pub size : length r ≡ 12
-  pub done : (k : ℕ) → k < n → (get_or r k (pos 0) ≡ f k) × (mag (get_or r k (pos 0)) ≤ top)
+  pub done : (k : ℕ) → k < n → P k (get_or r k (pos 0))
   pub left : (k : ℕ) → n ≤ k → k < 12 → get_or r k (pos 0) ≡ pos 0
 
-module _ (top : ℕ) (f : ℕ → ℤ) where
-  pub prices_none : PricesTo top f 0 (replicate 12 (pos 0))
-  prices_none = record { size = refl; done = λ k l. absurd (not-suc-le-zero l); left = λ k l h. get_or-replicate 12 k (pos 0) (pos 0) h }
-
-  pub prices_more : (n : ℕ) (r : List ℤ) (y : ℤ) → n < 12 → y ≡ f n → mag y ≤ top → PricesTo top f n r → PricesTo top f (n + 1) (set r n y)
-  prices_more n r y h e s P = record {
-    size = length-set r n y ∙ P.size;
-    done = λ k l. ⊎_elim (λ q. (rw q (here ∙ e), rw q (subst (λ (z : ℤ). mag z ≤ top) (sym here) s)))
-        (λ g. let o = get_or-set_other r n k y (pos 0) (omega arith) in (o ∙ (P.done k g).0, subst (λ (z : ℤ). mag z ≤ top) (sym o) (P.done k g).1)) (eq-or-lt_of_le (le_of_suc-le-suc (rw add-one at l)));
-    left = λ k l g. get_or-set_other r n k y (pos 0) (omega arith) ∙ P.left k (omega arith) g;
+module _ (P : ℕ → ℤ → Type 0) where
+  pub prices_more : (n : ℕ) (r : List ℤ) (y : ℤ) → n < 12 → P n y → PricesTo P n r → PricesTo P (n + 1) (set r n y)
+  prices_more n r y h p R = record {
+    size = length-set r n y ∙ R.size;
+    done = λ k l. ⊎_elim (λ q. rw q (subst (λ (z : ℤ). P n z) (sym here) p)) (λ g. subst (λ (z : ℤ). P k z) (sym (get_or-set_other r n k y (pos 0) (omega arith))) (R.done k g)) (eq-or-lt_of_le (le_of_suc-le-suc (rw add-one at l)));
+    left = λ k l g. get_or-set_other r n k y (pos 0) (omega arith) ∙ R.left k (omega arith) g;
   }
     where
       here : get_or (set r n y) n (pos 0) ≡ y
-      here = get_or-set_same r n y (pos 0) (rw P.size h)
+      here = get_or-set_same r n y (pos 0) (omega (arith, R.size))
 
-  pub prices_all : (m n : ℕ) (r : List ℤ) → n ≡ m → PricesTo top f n r → Prices m top f r
-  prices_all m n r e P = record { each = λ k l. (P.done k (omega arith)).0; small = λ k l. (P.done k (omega arith)).1; zero = λ k l h. P.left k (omega arith) h }
+pub prices_made : (m top : ℕ) (r : List ℤ) (f : ℕ → ℤ) → ((k : ℕ) → k < m → get_or r k (pos 0) ≡ f k) → ((k : ℕ) → k < m → mag (f k) ≤ top) → ZeroFrom m r → Prices m top f r
+prices_made m top r f e s z = record { each = e; small = λ k l. subst (λ (y : ℤ). mag y ≤ top) (sym (e k l)) (s k l); zero = z }
+
+-- what holds of every number that a test over a range has passed
+pub all_below : (P : ℕ → Type 0) (Q : Type 0) (m : ℕ) (r : Bool) → MatchBool r (AllWithin P (range_with_len 0 m) 0 (length (range_with_len 0 m))) Q → r ≡ true → (j : ℕ) → j < m → P j
+all_below P Q m r h e j l =
+    let a : AllWithin P (range_with_len 0 m) 0 (length (range_with_len 0 m)) = subst (λ (b : Bool). MatchBool b (AllWithin P (range_with_len 0 m) 0 (length (range_with_len 0 m))) Q) e h in
+    let z : 0 + j ≡ j = omega arith in
+    subst P (get_or-range_with_len 0 m j 0 l ∙ z) (a j 0 zero-le (omega (arith, length-range_with_len 0 m)))
 
 -- DUAL FEASIBILITY: a row price u and a column price 0 - v, which is at zero or below
 pub dual_le : (u v e : ℕ) → u ≤ e + v → (pos u +ℤ neg_ℤ (pos v)) ≤ℤ pos e

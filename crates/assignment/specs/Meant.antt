@@ -1,9 +1,9 @@
 -- What an answer of the least-assignment call says of assignments, by the meaning. Assumes nothing.
-use Rattle.std.specs.Prelude.{ℕ, ◌≡◌, ◌≢◌, ◌⊎◌, List, take, None}
+use Rattle.std.specs.Prelude.{ℕ, ◌≡◌, ◌⊎◌, List, take, Option, None, Some, Result, Ok, Err}
 use Rattle.deck.specs.Assignments.{sum_of}
 use Rattle.deck.specs.Calls.{assignment_cause}
-use Rattle.deck.specs.declared.AssignmentKind.{AssignmentKind}
-use Rattle.deck.specs.declared.AssignmentKind.TheVariants.{Least, NoAssignment, Refused}
+use Rattle.deck.specs.declared.Assignment.{Assignment}
+use Rattle.deck.specs.declared.cause.Cause.{Cause}
 use Rattle.meaning.specs.Meaning.{Unbarred, AllBarred, Less}
 
 -- a is the first in the order of assignments, and n its sum
@@ -11,8 +11,14 @@ abbrev pub First : (m : ℕ) (table a : List ℕ) (n : ℕ) → Type 0
 First m table a n = Unbarred m table a × (n ≡ sum_of m table a) × ((b : List ℕ) → Unbarred m table b → (b ≡ a) ⊎ Less m table a b)
 
 -- "It answers the first in this order with its sum, or none exactly if every assignment uses a barred entry": of a call that is
--- accepted, by the first m of the tasks; else the cause. The cases exclude each other
-abbrev pub Meant : (m : ℕ) (table : List ℕ) → AssignmentKind → (tasks : List ℕ) → Type 0
-Meant m table (Least n) tasks = (assignment_cause m table ≡ None) × First m table (take m tasks) n
-Meant m table NoAssignment tasks = (assignment_cause m table ≡ None) × AllBarred m table
-Meant m table (Refused c) tasks = (c ≡ assignment_cause m table) × (c ≢ None)
+-- accepted, by the sum and the first m of the tasks; else the cause. The cases exclude each other
+abbrev pub Meant : (m : ℕ) (table : List ℕ) → Result (Option ℕ) Cause → (tasks : List ℕ) → Type 0
+Meant m table (Ok (Some n)) tasks = (assignment_cause m table ≡ None) × First m table (take m tasks) n
+Meant m table (Ok None) tasks = (assignment_cause m table ≡ None) × AllBarred m table
+Meant m table (Err c) tasks = assignment_cause m table ≡ Some c
+
+-- the sum that an answer has
+abbrev pub sum_told : Result (Option Assignment) Cause → Result (Option ℕ) Cause
+sum_told (Ok (Some a)) = Ok (Some a.sum)
+sum_told (Ok None) = Ok None
+sum_told (Err c) = Err c

@@ -2,7 +2,6 @@
 use Rattle.std.proofs.Common.{Option, None, Some, ℕ, ◌<◌, ◌≡◌, refl, sym, ap, ◌∙◌, ⊎_elim, List, arith, take, get_or-take, lt-ltb, le-ltb}
 use Rattle.std.proofs.lemmas.Option.{none-some, same_Some}
 use Rattle.deck.specs.Assignments.{least_assignment}
-use Rattle.deck.specs.Calls.{task_list}
 use Rattle.meaning.specs.Meaning.{◌at◌}
 use Rattle.prices.specs.Square.{copied}
 use Rattle.prices.proofs.Squares.{square_same}
@@ -19,10 +18,10 @@ not_found m table None c e f = refl
 not_found m table (Some a) c e f = absurd (none-some (candidate_of m table a) (sym f ∙ e))
 
 pub found : (m : ℕ) (table : List ℕ) (o : Option (List ℕ)) (c : Option Found) (x : Found) → c ≡ candidate_for m table o → c ≡ Some x
-    → (a : List ℕ) × (o ≡ Some a) × (x.tasks ≡ task_list a)
+    → (a : List ℕ) × (o ≡ Some a) × (x ≡ candidate_of m table a)
 unfolding candidate_for
 found m table None c x e f = absurd (none-some x (sym e ∙ f))
-found m table (Some a) c x e f = (a, refl, ap (λ (y : Found). y.tasks) (same_Some x (candidate_of m table a) (sym f ∙ e)))
+found m table (Some a) c x e f = (a, refl, same_Some x (candidate_of m table a) (sym f ∙ e))
 
 -- A SLOT: its part's candidate is the least assignment of the part's working copy
 module _ (m : ℕ) (table tasks closed : List ℕ) (row j : ℕ) (low : j < m) where
