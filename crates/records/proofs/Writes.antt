@@ -5,7 +5,7 @@ use lib.Seq.{paste}
 use Rattle.deck.specs.declared.Constraint.{Constraint}
 use Rattle.records.specs.Cut.{part, put, offset, cut}
 use Rattle.records.specs.Record.{layout, fields, fields_at, words_of, with_path, with_slot, slot_in, slot_words, root_fields, Wrote}
-use Rattle.records.specs.declared.Slot.{Slot}
+use Rattle.candidates.specs.declared.Candidate.{Candidate}
 use Rattle.std.specs.Prelude.{Option}
 use Rattle.records.proofs.Cuts.{set_put, length_part, length_put, part_lent, part_part, cut_inside, offset_sum}
 use Rattle.records.proofs.Frames.{wrote, wrote_word, wrote_record, wrote_then, length_field}
@@ -71,7 +71,7 @@ slot_lent work n j b =
     ∙ field_part (part (512 * n) 512 work) refl 6 (14 * j) 14 (32 + 14 * j) (omega arith) (omega arith) refl
 
 -- a slot that is filled or emptied
-pub slot_wrote : (work ys : List ℕ) (n j : ℕ) (slot : Option Slot) → 512 * n + 512 ≤ length work → j < 12
+pub slot_wrote : (work ys : List ℕ) (n j : ℕ) (slot : Option Candidate) → 512 * n + 512 ≤ length work → j < 12
     → length ys ≡ length (part (512 * n + (32 + 14 * j)) (512 * n + (32 + 14 * j) + 14 - (512 * n + (32 + 14 * j))) work)
     → ys ≡ slot_words slot (part (512 * n + (32 + 14 * j)) (512 * n + (32 + 14 * j) + 14 - (512 * n + (32 + 14 * j))) work)
     → Wrote work (put (512 * n + (32 + 14 * j)) (512 * n + (32 + 14 * j) + 14 - (512 * n + (32 + 14 * j))) ys work) n (with_slot (fields_at work n) j (slot_words slot (slot_in (fields_at work n) j)))

@@ -4,9 +4,9 @@ use Rattle.deck.specs.Sheet.{carrier}
 use Rattle.deck.specs.Calls.{constraint_of}
 use Rattle.deck.specs.declared.Constraint.{Constraint}
 use Rattle.deck.specs.declared.Constraint.TheVariants.{Place, Move}
+use Rattle.candidates.specs.declared.Candidate.{Candidate}
 use Rattle.records.specs.Cut.{part, put, cut}
 use Rattle.records.specs.declared.Origin.{Origin}
-use Rattle.records.specs.declared.Slot.{Slot}
 
 -- 0 the link: 0 for a root, else parent + 1; 1 to 5 the constraint; 6 to 17 the tasks; 18 to 29 the finishes; 30 of a root: the row
 -- of its part of the assignments; 31 of a number up to the latest root: the word of the tournament of the slots; 32 to 199 of a
@@ -98,12 +98,15 @@ closed_in fs = get_or fs 8 []
 abbrev pub bytes : List ℕ → List ℕ
 bytes l = map (λ x. x % 256) l
 
--- an assignment stands in slot j where its flag is 1
-abbrev pub slot_at : List (List ℕ) → ℕ → Option Slot
-slot_at fs j = cond (eqb (flag_in fs j) 1) (Some (record { sum = sum_in fs j; tasks = bytes (slot_tasks_in fs j) })) None
+-- the assignment of slot j; one stands in it where its flag is 1
+abbrev pub kept_at : List (List ℕ) → ℕ → Candidate
+kept_at fs j = record { sum = sum_in fs j; tasks = bytes (slot_tasks_in fs j) }
+
+abbrev pub slot_at : List (List ℕ) → ℕ → Option Candidate
+slot_at fs j = cond (eqb (flag_in fs j) 1) (Some (kept_at fs j)) None
 
 -- the words of a slot that is filled or emptied; `old` are its words before
-abbrev pub slot_words : Option Slot → List ℕ → List ℕ
+abbrev pub slot_words : Option Candidate → List ℕ → List ℕ
 slot_words None old = set old 0 0
 slot_words (Some s) old = 1 ∷ s.sum ∷ s.tasks
 

@@ -7,8 +7,9 @@ ghost use Rattle.deck.specs.Lists.{sum};
 ghost use Rattle.deck.specs.Sheet.{task};
 ghost use Rattle.pack.specs.Pack.{pack_of};
 ghost use Rattle.records.specs.Cut.{part};
-ghost use Rattle.records.specs.Record.{fields, fields_at, HasRecord, HasNodes, root_in, constraint_in, origin_in, tasks_in, finishes_in, row_in, closed_in, slot_at, slot_in, tournament_in, packed_in, bytes, words_of, Small, with_path, with_slot, slot_words, root_fields, closed_key, with_key, Wrote};
+ghost use Rattle.records.specs.Record.{fields, fields_at, HasRecord, HasNodes, root_in, constraint_in, origin_in, tasks_in, finishes_in, row_in, closed_in, kept_at, slot_at, slot_in, tournament_in, packed_in, bytes, words_of, Small, with_path, with_slot, slot_words, root_fields, closed_key, with_key, Wrote};
 
+use candidates::Candidate;
 use deck::{Carrier, Constraint, Task};
 use std::marker::Model;
 
@@ -44,13 +45,6 @@ pub const CLOSED_KEY: u32 = 65535;
 pub struct Origin {
     pub parent: usize,
     pub constraint: Constraint,
-}
-
-// An assignment that remains, in a slot of a root: its sum, and the list of its tasks.
-#[derive(Clone, Copy, Debug, PartialEq, Eq)]
-pub struct Slot {
-    pub sum: u32,
-    pub tasks: [u8; 12],
 }
 
 // The five 16-bit words of a constraint.
@@ -218,18 +212,28 @@ impl<'a> Record<'a> {
         self.words[TOURNAMENT] as usize
     }
 
-    pub fn slot(&self, j: usize) -> Option<Slot>
+    // The assignment of a slot, or that of a slot that was emptied.
+    pub fn kept(&self, j: usize) -> Candidate
+        requires { j < 12 }
+        ensures { result ≡ kept_at self.now j }
+    {
+        let at = SLOTS + SLOT_SIZE * j;
+        Candidate {
+            sum: self.words[at + 1],
+            tasks: bytes_of(&self.words[at + 2..at + SLOT_SIZE]),
+        }
+    }
+
+    // An assignment that remains.
+    pub fn slot(&self, j: usize) -> Option<Candidate>
         requires { j < 12 }
         ensures { result ≡ slot_at self.now j }
     {
-        let at = SLOTS + SLOT_SIZE * j;
-        if self.words[at] != 1 {
-            return None;
+        if self.words[SLOTS + SLOT_SIZE * j] == 1 {
+            Some(self.kept(j))
+        } else {
+            None
         }
-        Some(Slot {
-            sum: self.words[at + 1],
-            tasks: bytes_of(&self.words[at + 2..at + SLOT_SIZE]),
-        })
     }
 }
 
@@ -310,7 +314,7 @@ fn root_record(words: &mut [u32], tasks: [u8; 12], row: usize, closed: [u8; 12])
 }
 
 // Fills slot j of a root, or empties it: an empty slot keeps its sum and its list, and loses its flag.
-pub fn set_slot(work: &mut [u32], n: usize, j: usize, slot: Option<Slot>)
+pub fn set_slot(work: &mut [u32], n: usize, j: usize, slot: Option<Candidate>)
     requires { HasRecord work.old n × (j < 12) }
     ensures { Wrote work.old work.new n (with_slot (fields_at work.old n) j (slot_words slot (slot_in (fields_at work.old n) j))) }
 {
@@ -318,7 +322,7 @@ pub fn set_slot(work: &mut [u32], n: usize, j: usize, slot: Option<Slot>)
     put_slot(&mut work[at..at + SLOT_SIZE], slot);
 }
 
-fn put_slot(words: &mut [u32], slot: Option<Slot>)
+fn put_slot(words: &mut [u32], slot: Option<Candidate>)
     requires { length words.old ≡ 14 }
     ensures { words.new ≡ slot_words slot words.old }
 {
