@@ -1,19 +1,14 @@
 -- The chosen slot is one whose assignment is no later than those of the others. Assumes nothing.
-use Prim.Native.Nat.{ℕ, ◌+◌, ◌-◌, ◌<◌, ◌≤◌}
-use mathlib.Core.Path.{◌≡◌, refl, sym, ap, subst, ◌∙◌}
-use mathlib.Core.Logic.{◌⊎◌, inl, inr, ⊎_elim}
-use mathlib.Core.Bool.{Bool, true, false, cond, false≢true}
+use Rattle.std.specs.Prelude.{Some, None, Option}
+use Rattle.std.proofs.Common.{ℕ, ◌+◌, ◌-◌, ◌<◌, ◌≤◌, ◌≡◌, refl, sym, ap, subst, ◌∙◌, ◌⊎◌, inl, inr, ⊎_elim, Bool, true, false, cond, List, [], ◌∷◌, ◌++◌, append_assoc, append-nil, arith, length, take, replicate, length-append, get_or-append-add, eqb, eq-eqb, eqb-true}
+use mathlib.Core.Bool.{false≢true}
 use mathlib.Core.List.Memᴰ.{append_cases as cases_append}
 use mathlib.Core.List.Memᴰ.{eq_of_singleton as only}
 use mathlib.Core.List.Memᴰ.{head as here}
 use mathlib.Core.List.Memᴰ.{tail as there}
-use mathlib.Core.List.{List, [], ◌∷◌, ◌++◌, append_assoc, append-nil, Memᴰ as Mem}
-use native.Mathlib.Omega.{arith}
+use mathlib.Core.List.{Memᴰ as Mem}
 use native.Mathlib.Nat.{suc_inj}
-use lib.ListN.{length, take, replicate, get_or-append, get_or-replicate, get_or-eq_default, length-append, length-replicate}
-use lib.Seq.{get_or-append-add}
-use lib.Dec.{eqb}
-use borrow.Author.Tests.{eq-eqb, eqb-true}
+use lib.ListN.{get_or-append, get_or-replicate, get_or-eq_default, length-replicate}
 use Rattle.deck.specs.Lists.{each}
 use Rattle.deck.specs.Assignments.{sum_of}
 use Rattle.deck.specs.Calls.{task_list}
@@ -29,7 +24,7 @@ use Rattle.candidates.proofs.Orders.{says_earlier}
 use Rattle.records.specs.Record.{fields_at, row_in, flag_in, slot_tasks_in, bytes}
 use Rattle.records.proofs.Words.{bytes_same}
 use Rattle.roots.specs.Slots.{slot_of, slot_here, root_slots, slots_at, PartsHold}
-use Rattle.roots.specs.Choices.{slot_before, first_of, better_of, over_slots, Live, ChosenOf}
+use Rattle.roots.specs.Choices.{Chosen, slot_before, first_of, better_of, over_slots, Live, ChosenOf}
 use Rattle.roots.specs.declared.Choice.{Choice}
 
 -- of two lists of one length, one comes before the other, or they are the same

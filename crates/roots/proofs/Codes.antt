@@ -1,14 +1,8 @@
 -- Choices as numbers, and the word of the tournament as it is read and written. Assumes nothing.
-use Prim.Native.Nat.{ℕ, suc, ◌+◌, ◌*◌, ◌-◌, ◌<◌, ◌≤◌, ◌/◌, ◌%◌}
-use mathlib.Core.Path.{◌≡◌, refl, sym, ap, ◌∙◌}
-use mathlib.Core.Logic.{◌≢◌}
-use mathlib.Core.List.{List, [], ◌∷◌}
-use native.Mathlib.Numerals.{add-one}
-use native.Mathlib.Omega.{arith}
+use Rattle.roots.specs.Choices.{Chosen}
+use Rattle.std.specs.Prelude.{Some, None, Option}
+use Rattle.std.proofs.Common.{ℕ, suc, ◌+◌, ◌*◌, ◌-◌, ◌<◌, ◌≤◌, ◌/◌, ◌%◌, ◌≡◌, refl, sym, ap, ◌∙◌, ◌≢◌, List, [], ◌∷◌, add-one, arith, get_or, set, get_or-set_same, get_or-set_other, lt-ltb, le-ltb}
 use native.Mathlib.Decide.{ℕ_discrete}
-use lib.ListN.{get_or, set}
-use lib.Seq.{get_or-set_same, get_or-set_other}
-use borrow.Author.Tests.{lt-ltb, le-ltb}
 use Rattle.records.specs.Record.{fields_at, tournament_in, Wrote}
 use Rattle.roots.specs.Tournament.{code_of, choice_of, slot_code, slot_choice, win_at, own_at, win_below, Below, Of, WordPut}
 use Rattle.roots.specs.declared.Choice.{Choice}

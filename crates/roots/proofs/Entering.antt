@@ -1,20 +1,17 @@
 -- The tournament after a root has entered it. Assumes nothing.
-use Prim.Native.Nat.{ℕ, ◌+◌, ◌*◌, ◌<◌, ◌≤◌}
-use mathlib.Core.Path.{◌≡◌, refl, sym, ap, subst, ◌∙◌}
-use mathlib.Core.Logic.{◌⊎◌, inl, inr, ⊎_elim, ◌≢◌}
+use Rattle.std.specs.Prelude.{None}
+use Rattle.std.proofs.Common.{ℕ, ◌+◌, ◌*◌, ◌<◌, ◌≤◌, ◌≡◌, refl, sym, ap, subst, ◌∙◌, ◌⊎◌, inl, inr, ⊎_elim, ◌≢◌, List, [], ◌∷◌, arith, get_or, length}
 use mathlib.Core.List.Memᴰ.{cases_cons}
 use mathlib.Core.List.Memᴰ.{head as here}
 use mathlib.Core.List.Memᴰ.{not-nil}
 use mathlib.Core.List.Memᴰ.{tail as there}
-use mathlib.Core.List.{List, [], ◌∷◌, Memᴰ as Mem}
-use native.Mathlib.Omega.{arith}
+use mathlib.Core.List.{Memᴰ as Mem}
 use native.Mathlib.Decide.{ℕ_discrete}
-use lib.ListN.{get_or, length}
 use Rattle.prices.proofs.Growth.{lower}
 use Rattle.meaning.specs.Sorted.{Sorted}
 use Rattle.records.specs.Record.{fields_at}
 use Rattle.roots.specs.Slots.{PartsHold, RootMade}
-use Rattle.roots.specs.Choices.{Live, Cleared}
+use Rattle.roots.specs.Choices.{Chosen, Live, Cleared}
 use Rattle.roots.specs.Tournament.{own_at, best_own, Played, Tournament, Entered, SlotsHold, FirstSlot}
 use Rattle.roots.proofs.Codes.{win_kept, own_kept}
 use Rattle.roots.proofs.Playing.{SameOrder, played_on, best_same, only_best}

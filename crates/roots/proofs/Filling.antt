@@ -1,14 +1,9 @@
 -- Slots of a record put anew, and the slots of a root filled one after another. Assumes nothing.
-use Prim.Native.Nat.{ℕ, suc, ◌+◌, ◌*◌, ◌-◌, ◌<◌, ◌≤◌}
-use mathlib.Core.Path.{◌≡◌, refl, sym, ap, subst, ◌∙◌}
-use mathlib.Core.Logic.{⊎_elim, ◌≢◌}
-use mathlib.Core.Bool.{true, false}
-use mathlib.Core.List.{List, [], ◌∷◌}
+use Rattle.std.proofs.Common.{ℕ, suc, ◌+◌, ◌*◌, ◌-◌, ◌<◌, ◌≤◌, ◌≡◌, refl, sym, ap, subst, ◌∙◌, ⊎_elim, ◌≢◌, List, [], ◌∷◌, arith, get_or, set, take, length, replicate, length-set, length-append, get_or-set_same, get_or-set_other, set-set, take_all}
 use Rattle.std.specs.Prelude.{Option, None, Some}
-use native.Mathlib.Omega.{arith}
 use native.Mathlib.Decide.{ℕ_discrete}
-use lib.ListN.{get_or, set, take, length, replicate, length-set, length-append, length-replicate}
-use lib.Seq.{get_or-set_same, get_or-set_other, set-set, set-get_or, take_all}
+use lib.ListN.{length-replicate}
+use lib.Seq.{set-get_or}
 use Rattle.deck.specs.Assignments.{sum_of}
 use Rattle.deck.specs.Calls.{task_list}
 use Rattle.prices.proofs.Growth.{lower}
@@ -17,12 +12,13 @@ use Rattle.partition.proofs.Candidates.{Candidate as CandidateIs, candidate_mean
 use Rattle.candidates.specs.Candidates.{candidate_for}
 use Rattle.candidates.specs.declared.Candidate.{Candidate}
 use Rattle.records.specs.Cut.{part, put}
-use Rattle.records.specs.Record.{fields, fields_at, tasks_in, row_in, closed_in, slot_in, bytes, with_slot, root_fields, Wrote}
+use Rattle.records.specs.Record.{slot_words, fields, fields_at, tasks_in, row_in, closed_in, slot_in, with_slot, root_fields, Wrote}
 use Rattle.records.proofs.Cuts.{length_part, part_here, part_behind, part_before}
 use Rattle.records.proofs.Frames.{length_field}
 use Rattle.records.proofs.Words.{bytes_same}
 use Rattle.roots.specs.Slots.{SlotFor, PartKept, Filled, RootMade}
-use Rattle.roots.specs.Choices.{slot_words}
+use Rattle.roots.specs.Choices.{part_in}
+use Rattle.tables.specs.declared.Part.{Part}
 
 -- THE FIELDS OF A RECORD
 pub fields_long : (work : List ℕ) (n : ℕ) → length (fields_at work n) ≡ 10
@@ -118,7 +114,7 @@ module _ (m : ℕ) (table before : List ℕ) (n : ℕ) (small : m ≤ 12) where
       let q = slot_part (take m (tasks_in (fields_at before n))) (row_in (fields_at before n)) (closed_in (fields_at before n)) i in
       omega (arith, (subst (CandidateIs m table q) e (candidate_meant m table q)).0.0.as_many)
 
-  pub sofar_more : (work after : List ℕ) (j : ℕ) (c : Candidate) → 512 * n + 512 ≤ length work → j < m → c ≡ candidate_for m table (first j)
+  pub sofar_more : (work after : List ℕ) (j : ℕ) (c : Option Candidate) → 512 * n + 512 ≤ length work → j < m → c ≡ candidate_for m table (first j)
       → Wrote work after n (with_slot (fields_at work n) j (slot_words c (slot_in (fields_at work n) j))) → Sofar m table before n work j → Sofar m table before n after (j + 1)
   sofar_more work after j c h l e u s =
       record {
@@ -145,23 +141,14 @@ module _ (m : ℕ) (table before : List ℕ) (n : ℕ) (small : m ≤ 12) where
   pub sofar_all : (work : List ℕ) (j : ℕ) → m ≤ j → Sofar m table before n work j → Filled m table before work n
   sofar_all work j h s = record { same = s.same; slots = λ i a b. s.slots i a (omega arith) }
 
--- a candidate computed from the record's words as bytes
-pub candidate_read : (m : ℕ) (table : List ℕ) (fs : List (List ℕ)) (j row : ℕ) (tasks closed : List ℕ) (c : Candidate) → PartKept m (tasks_in fs) (closed_in fs) → tasks ≡ bytes (tasks_in fs) → row ≡ row_in fs → closed ≡ bytes (closed_in fs)
-    → c ≡ candidate_for m table (candidate m table (slot_part (take m tasks) row closed j)) → c ≡ candidate_for m table (candidate m table (slot_part (take m (tasks_in fs)) (row_in fs) (closed_in fs) j))
-candidate_read m table fs j row tasks closed c k a b d e =
-    let t : tasks ≡ tasks_in fs = a ∙ bytes_same (tasks_in fs) k.tasks_small in
-    let s : closed ≡ closed_in fs = d ∙ bytes_same (closed_in fs) k.closed_small in
-    rw (t, b, s) at e
-
--- a candidate is stored, or there is none
-module _ (work after : List ℕ) (n j : ℕ) (c : Candidate) where
-  pub stored_some : (sum : ℕ) → c.found ≡ true → sum ≡ c.sum → Wrote work after n (with_slot (fields_at work n) j (1 ∷ sum ∷ c.tasks))
-      → Wrote work after n (with_slot (fields_at work n) j (slot_words c (slot_in (fields_at work n) j)))
-  stored_some sum f e u = rw (f, ← e) u
-
-  pub stored_none : c.found ≡ false → Wrote work after n (with_slot (fields_at work n) j (set (slot_in (fields_at work n) j) 0 0))
-      → Wrote work after n (with_slot (fields_at work n) j (slot_words c (slot_in (fields_at work n) j)))
-  stored_none f u = rw f u
+-- a candidate computed from the root's part, whose numbers are the record's as bytes
+pub candidate_read : (m : ℕ) (table : List ℕ) (fs : List (List ℕ)) (j : ℕ) (p : Part) (c : Option Candidate) → PartKept m (tasks_in fs) (closed_in fs) → p ≡ part_in fs
+    → c ≡ candidate_for m table (candidate m table (slot_part (take m p.tasks) p.row.0 p.closed j)) → c ≡ candidate_for m table (candidate m table (slot_part (take m (tasks_in fs)) (row_in fs) (closed_in fs) j))
+candidate_read m table fs j p c k h e =
+    let t : p.tasks ≡ tasks_in fs = ap (λ (q : Part). q.tasks) h ∙ bytes_same (tasks_in fs) k.tasks_small in
+    let r : p.row.0 ≡ row_in fs = ap (λ (q : Part). q.row.0) h in
+    let s : p.closed ≡ closed_in fs = ap (λ (q : Part). q.closed) h ∙ bytes_same (closed_in fs) k.closed_small in
+    rw (t, r, s) at e
 
 -- the record of a root is begun, and its slots are filled
 pub root_filled : (m : ℕ) (table before mid after : List ℕ) (n : ℕ) (tasks : List ℕ) (row : ℕ) (closed : List ℕ) → Wrote before mid n (root_fields tasks row closed)

@@ -1,21 +1,15 @@
 -- A root made of the next assignment: its slots and those that were left hold what remains. Assumes nothing.
-use Prim.Native.Nat.{ℕ, ◌+◌, ◌*◌, ◌-◌, ◌<◌, ◌≤◌}
-use mathlib.Core.Path.{◌≡◌, refl, sym, ap, subst, ◌∙◌}
-use mathlib.Core.Logic.{⊎_elim}
-use mathlib.Core.Bool.{Bool, true, false, cond}
+use Rattle.std.proofs.Common.{ℕ, ◌+◌, ◌*◌, ◌-◌, ◌<◌, ◌≤◌, ◌≡◌, refl, sym, ap, subst, ◌∙◌, ⊎_elim, Bool, true, false, cond, List, [], ◌∷◌, ◌++◌, arith, set, take, length, replicate, get_or-set_same, get_or-set_other, take_at, get_or-take, eqb, eq-eqb, ne_eqb}
 use mathlib.Core.List.Memᴰ.{append_cases as cases_append}
 use mathlib.Core.List.Memᴰ.{append_left as in_left}
 use mathlib.Core.List.Memᴰ.{append_right as in_right}
 use mathlib.Core.List.Memᴰ.{cases_cons}
 use mathlib.Core.List.Memᴰ.{not-nil}
-use mathlib.Core.List.{List, [], ◌∷◌, ◌++◌, Memᴰ as Mem}
+use mathlib.Core.List.{Memᴰ as Mem}
 use Rattle.std.specs.Prelude.{Option, None, Some}
-use native.Mathlib.Omega.{arith}
 use native.Mathlib.Decide.{ℕ_discrete}
-use lib.ListN.{set, take, length, replicate, get_or-append}
-use lib.Seq.{get_or-set_same, get_or-set_other, set_out, take_at, get_or-take}
-use lib.Dec.{eqb}
-use borrow.Author.Tests.{eq-eqb, ne_eqb}
+use lib.ListN.{get_or-append}
+use lib.Seq.{set_out}
 use Rattle.deck.specs.Lists.{count_from}
 use Rattle.deck.specs.Assignments.{assignments_in_order, least_assignment}
 use Rattle.deck.specs.Calls.{task_list}
@@ -31,9 +25,9 @@ use Rattle.partition.proofs.Murty.{next_in_order, none_remains, first_in_order_l
 use Rattle.records.specs.Record.{fields_at, tasks_in, row_in, closed_in, flag_in, slot_tasks_in, bytes, root_fields}
 use Rattle.records.proofs.Words.{bytes_same}
 use Rattle.roots.specs.Slots.{slot_of, slot_here, root_slots, slots_at, SlotFor, PartKept, Rooted, PartsHold, RootMade}
-use Rattle.roots.specs.Choices.{Live, part_of, Cleared}
+use Rattle.roots.specs.Choices.{Chosen, Live, part_of, Cleared}
 use Rattle.roots.specs.Tournament.{SlotsHold, FirstSlot, NextTaken}
-use Rattle.roots.specs.declared.RootPart.{RootPart}
+use Rattle.tables.specs.declared.Part.{Part}
 use Rattle.roots.proofs.Chosen.{list_bytes, live_unbarred, live_list}
 use Rattle.roots.proofs.Parts.{byte_at}
 use Rattle.roots.proofs.Taken.{each_same, taken_slots, taken_rooted}
@@ -203,7 +197,7 @@ module _ (m : ℕ) (table before mid : List ℕ) (latest made n j : ℕ) (rest :
 
   -- final is what the workspace is after the root has entered the tournament
   next_made : (after final : List ℕ) → ((others : List (List ℕ)) → PartsHold m table after (made ∷ H.roots) others → SlotsHold m table final (made + 1) others)
-      → RootMade m table mid after made (part_of fs j).tasks (part_of fs j).row (part_of fs j).closed → NextTaken m table final (made + 1) rest (part_of fs j).tasks
+      → RootMade m table mid after made (part_of fs j).tasks (part_of fs j).row.0 (part_of fs j).closed → NextTaken m table final (made + 1) rest (part_of fs j).tasks
   next_made after final entered u =
       let a = live_unbarred m table before H.roots rest small H.parts n j live in
       let w = taken_slots m before mid H.roots n j small room live cleared H.falls in
@@ -223,16 +217,16 @@ module _ (m : ℕ) (table before mid : List ℕ) (latest made n j : ℕ) (rest :
       }
 
   -- with the part as it was handed back
-  module _ (p : RootPart) (e : p ≡ part_of fs j) where
-    pub handed_row : p.row < 12
-    handed_row = rw (ap (λ (q : RootPart). q.row) e) (omega (arith, live.high))
+  module _ (p : Part) (e : p ≡ part_of fs j) where
+    pub handed_row : p.row.0 < 12
+    handed_row = rw (ap (λ (q : Part). q.row.0) e) (omega (arith, live.high))
 
     pub handed_kept : PartKept m p.tasks p.closed
-    handed_kept = subst (λ (q : RootPart). PartKept m q.tasks q.closed) (sym e) part_kept
+    handed_kept = subst (λ (q : Part). PartKept m q.tasks q.closed) (sym e) part_kept
 
     pub next_handed : (after final : List ℕ) → ((others : List (List ℕ)) → PartsHold m table after (made ∷ H.roots) others → SlotsHold m table final (made + 1) others)
-        → RootMade m table mid after made p.tasks p.row p.closed → NextTaken m table final (made + 1) rest p.tasks
-    next_handed after final entered = subst (λ (q : RootPart). RootMade m table mid after made q.tasks q.row q.closed → NextTaken m table final (made + 1) rest q.tasks) (sym e) (next_made after final entered)
+        → RootMade m table mid after made p.tasks p.row.0 p.closed → NextTaken m table final (made + 1) rest p.tasks
+    next_handed after final entered = subst (λ (q : Part). RootMade m table mid after made q.tasks q.row.0 q.closed → NextTaken m table final (made + 1) rest q.tasks) (sym e) (next_made after final entered)
 
 -- a chosen slot is in the workspace
 pub chosen_inside : (m : ℕ) (table work : List ℕ) (latest n j : ℕ) (rest : List (List ℕ)) → m ≤ 12 → SlotsHold m table work latest rest → FirstSlot m work latest (Chosen n j)

@@ -1,16 +1,10 @@
 -- The choices at a number of the tournament, and what they are read from. Assumes nothing.
-use Prim.Native.Nat.{ℕ, ◌+◌, ◌*◌, ◌-◌, ◌<◌, ◌≤◌}
-use mathlib.Core.Path.{◌≡◌, refl, sym, ap, subst, ◌∙◌}
-use mathlib.Core.Logic.{⊎_elim}
-use mathlib.Core.Bool.{Bool, true, false, cond}
-use mathlib.Core.List.{List, [], ◌∷◌}
-use native.Mathlib.Omega.{arith}
-use lib.ListN.{get_or}
-use lib.Dec.{eqb}
+use Rattle.std.specs.Prelude.{Some, None, Option}
+use Rattle.std.proofs.Common.{ℕ, ◌+◌, ◌*◌, ◌-◌, ◌<◌, ◌≤◌, ◌≡◌, refl, sym, ap, subst, ◌∙◌, ⊎_elim, Bool, true, false, cond, List, [], ◌∷◌, arith, get_or, eqb}
 use Rattle.deck.specs.Lists.{count_from}
 use Rattle.prices.proofs.Growth.{lower}
 use Rattle.records.specs.Record.{fields_at, row_in, flag_in, sum_in, slot_tasks_in}
-use Rattle.roots.specs.Choices.{slot_before, first_of, better_of, over_slots, Inside}
+use Rattle.roots.specs.Choices.{Chosen, slot_before, first_of, better_of, over_slots, Inside}
 use Rattle.roots.specs.Tournament.{win_at, own_at, win_below, first_choice, first_here, best_own, Below, Of, Named, Played, OnlyTournament}
 use Rattle.roots.specs.declared.Choice.{Choice}
 use Rattle.roots.proofs.Codes.{below_yes, below_no}

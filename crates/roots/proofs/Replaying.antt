@@ -1,9 +1,6 @@
 -- The tournament played again from a number up, its own choice found anew, and a root that enters. Assumes nothing.
-use Prim.Native.Nat.{ℕ, ◌+◌, ◌*◌, ◌-◌, ◌<◌, ◌≤◌, ◌/◌}
-use mathlib.Core.Path.{◌≡◌, refl, sym, subst, ◌∙◌}
-use mathlib.Core.Logic.{⊎_elim, ◌≢◌}
-use mathlib.Core.List.{List}
-use native.Mathlib.Omega.{arith}
+use Rattle.std.specs.Prelude.{None, Option}
+use Rattle.std.proofs.Common.{ℕ, ◌+◌, ◌*◌, ◌-◌, ◌<◌, ◌≤◌, ◌/◌, ◌≡◌, refl, sym, subst, ◌∙◌, ⊎_elim, ◌≢◌, List, arith}
 use native.Mathlib.Decide.{ℕ_discrete}
 use Rattle.prices.proofs.Growth.{lower}
 use Rattle.roots.specs.Tournament.{win_at, own_at, win_below, first_here, best_own, Below, Of, Named, PlayedBut, Played, OnlyTournament, WordPut, Replayed, Refreshed, Emptied, Entered}

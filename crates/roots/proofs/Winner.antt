@@ -1,16 +1,13 @@
 -- The choice at number 0 of the tournament is one whose assignment is no later than those of the other slots. Assumes nothing.
-use Prim.Native.Nat.{ℕ, zero, suc, ◌+◌, ◌*◌, ◌-◌, ◌<◌, ◌≤◌, ◌/◌}
-use mathlib.Core.Path.{◌≡◌, refl, sym, ap, subst, ◌∙◌}
-use mathlib.Core.Logic.{◌⊎◌, inl, inr, ⊎_elim}
+use Rattle.std.specs.Prelude.{Some, None, Option}
+use Rattle.std.proofs.Common.{ℕ, zero, suc, ◌+◌, ◌*◌, ◌-◌, ◌<◌, ◌≤◌, ◌/◌, ◌≡◌, refl, sym, ap, subst, ◌∙◌, ◌⊎◌, inl, inr, ⊎_elim, List, [], ◌∷◌, arith, take}
 use mathlib.Core.List.Memᴰ.{append_cases as cases_append}
 use mathlib.Core.List.Memᴰ.{eq_of_singleton as only}
 use mathlib.Core.List.Memᴰ.{head as here}
 use mathlib.Core.List.Memᴰ.{not-nil}
 use mathlib.Core.List.Memᴰ.{tail as there}
-use mathlib.Core.List.{List, [], ◌∷◌, Memᴰ as Mem}
-use native.Mathlib.Omega.{arith}
+use mathlib.Core.List.{Memᴰ as Mem}
 use native.Mathlib.Decide.{ℕ_discrete}
-use lib.ListN.{take}
 use Rattle.deck.specs.Lists.{count_from, each}
 use Rattle.meaning.specs.Meaning.{Less}
 use Rattle.meaning.proofs.Lists.{mem_count_from}
@@ -19,7 +16,7 @@ use Rattle.prices.proofs.Growth.{lower}
 use Rattle.partition.specs.Parts.{Slot}
 use Rattle.records.specs.Record.{fields_at, row_in, slot_tasks_in}
 use Rattle.roots.specs.Slots.{slot_of, root_slots, slots_at, PartsHold}
-use Rattle.roots.specs.Choices.{slot_before, Live, ChosenOf}
+use Rattle.roots.specs.Choices.{Chosen, slot_before, Live, ChosenOf}
 use Rattle.roots.specs.Tournament.{own_at, win_below, first_choice, first_here, best_own, Tournament}
 use Rattle.roots.specs.declared.Choice.{Choice}
 use Rattle.roots.proofs.Chosen.{over_slots_lem, first_of_two}

@@ -3,11 +3,11 @@ use Rattle.std.specs.Prelude.{ℕ, ◌+◌, ◌*◌, ◌<◌, ◌≤◌, ◌≡�
 use mathlib.Core.List.{List, [], ◌∷◌, Memᴰ as Mem}
 use Rattle.partition.specs.Parts.{slot_part, Slot, Best}
 use Rattle.candidates.specs.Candidates.{less_from}
-use Rattle.candidates.specs.declared.Candidate.{Candidate}
+use Rattle.tables.specs.declared.Part.{Part}
+use Rattle.deck.specs.Sheet.{carrier}
 use Rattle.records.specs.Record.{fields_at, tasks_in, row_in, closed_in, slot_in, flag_in, sum_in, slot_tasks_in, bytes, with_slot, Wrote}
 use Rattle.roots.specs.Slots.{slot_of, PartsHold}
 use Rattle.roots.specs.declared.Choice.{Choice}
-use Rattle.roots.specs.declared.RootPart.{RootPart}
 
 -- slot j of root n
 abbrev pub Chosen : ℕ → ℕ → Option Choice
@@ -52,19 +52,19 @@ ChosenOf m work roots slots (Some c) =
     Live m work roots c.n c.j
     × ((table : List ℕ) (rest : List (List ℕ)) → m ≤ 12 → PartsHold m table work roots rest → Best m table slots (slot_of m (fields_at work c.n) c.j))
 
--- the part and the first assignment of slot j of a root with the fields fs
-abbrev pub part_of : List (List ℕ) → ℕ → RootPart
+-- the part of a root with the fields fs
+abbrev pub part_in : List (List ℕ) → Part
+part_in fs = record { tasks = bytes (tasks_in fs); row = carrier (row_in fs); closed = bytes (closed_in fs) }
+
+-- the part and the first assignment of slot j of the root
+abbrev pub part_of : List (List ℕ) → ℕ → Part
 part_of fs j =
     record {
       tasks = bytes (slot_tasks_in fs j);
-      row = j;
+      row = carrier j;
       closed = (slot_part (bytes (tasks_in fs)) (row_in fs) (bytes (closed_in fs)) j).closed;
     }
 
 -- the flag of slot j of root n is cleared
 abbrev pub Cleared : List ℕ → List ℕ → ℕ → ℕ → Type 0
 Cleared before after n j = Wrote before after n (with_slot (fields_at before n) j (set (slot_in (fields_at before n) j) 0 0))
-
--- the words of a slot for a candidate: without one the flag is cleared
-abbrev pub slot_words : Candidate → List ℕ → List ℕ
-slot_words c old = cond c.found (1 ∷ c.sum ∷ c.tasks) (set old 0 0)

@@ -4,14 +4,13 @@
 #![tactic(auto)]
 
 ghost use Rattle.std.specs.Prelude.{◌≡◌, List, ℕ, ◌+◌, ◌*◌, ◌<◌, ◌≤◌, length, Some, None};
-ghost use Rattle.std.proofs.Math.Option.{some};
 ghost use Rattle.deck.specs.Assignments.{least_assignment, assignments_in_order};
 ghost use Rattle.deck.specs.Calls.{task_list};
 ghost use Rattle.meaning.specs.Meaning.{◌at◌};
 ghost use Rattle.prices.specs.Square.{copied};
-ghost use Rattle.records.specs.Record.{fields_at, HasRecord, tasks_in};
+ghost use Rattle.records.specs.Record.{fields_at, HasRecord, tasks_in, closed_in};
 ghost use Rattle.roots.specs.Slots.{PartKept, Filled, RootMade};
-ghost use Rattle.roots.specs.Choices.{slot_before, first_of, better_of, Inside, part_of, Cleared};
+ghost use Rattle.roots.specs.Choices.{slot_before, first_of, better_of, Inside, part_in, part_of, Cleared};
 ghost use Rattle.roots.specs.Tournament.{code_of, choice_of, slot_code, win_below, own_at, best_own, first_choice, first_here, Below, Of, Named, PlayedBut, Played, WordPut, Replayed, Refreshed, Emptied, Entered, SlotsHold, FirstSlot, NextTaken};
 ghost use Rattle.roots.specs.Begun.{RootBegun};
 
@@ -33,7 +32,9 @@ fn slot_before(work: &[u32], a: Choice, b: Choice) -> bool
     requires { Inside (length work.now) (Some a) × Inside (length work.now) (Some b) }
     ensures { result ≡ slot_before (fields_at work.now a.n) a.j (fields_at work.now b.n) b.j }
 {
-    Record::at(work, a.n).kept(a.j) < Record::at(work, b.n).kept(b.j)
+    let first = Record::at(work, a.n).kept(a.j);
+    let second = Record::at(work, b.n).kept(b.j);
+    first < second
 }
 
 // The first of a slot and a choice.
@@ -52,10 +53,10 @@ fn better(work: &[u32], n: usize, j: usize, b: Option<Choice>) -> Option<Choice>
     requires { HasRecord work.now n × (j < 12) × Inside (length work.now) b }
     ensures { (result ≡ better_of work.now n j b) × Inside (length work.now) result }
 {
-    if Record::at(work, n).slot(j).is_none() {
-        return b;
+    match Record::at(work, n).slot(j) {
+        None => b,
+        Some(_) => first_of(work, Choice { n, j }, b),
     }
-    first_of(work, Choice { n, j }, b)
 }
 
 // The first of the slots of root n.
@@ -248,11 +249,12 @@ pub fn take_slot(work: &mut [u32], chosen: Choice) -> Part
     let root = Record::at(work, chosen.n);
     let tasks = root.kept(chosen.j).tasks;
     let part = candidates::slot(&part_in(&root), Carrier(chosen.j));
+    let closed = part.closed;
     records::set_slot(work, chosen.n, chosen.j, None);
     Part {
         tasks,
-        row: part.row,
-        closed: part.closed,
+        row: Carrier(chosen.j),
+        closed,
     }
 }
 
@@ -279,7 +281,7 @@ pub fn make_root(work: &mut [u32], m: usize, t: &[u16; 144], n: usize, part: Par
 
 // Makes the record of the first root, of number 0, whose list of 12 is that of the least assignment.
 pub fn first_root(work: &mut [u32], m: usize, t: &[u16; 144], tasks: [u8; 12])
-    requires { (0 < m) × (m ≤ 12) × (512 ≤ length work.old) × ((a : List ℕ) × (least_assignment m (copied m t.now) ≡ some a) × (tasks ≡ task_list a)) }
+    requires { (0 < m) × (m ≤ 12) × (512 ≤ length work.old) × ((a : List ℕ) × (least_assignment m (copied m t.now) ≡ Some a) × (tasks ≡ task_list a)) }
     ensures begun { RootBegun work.old work.new 0 tasks }
     ensures hold { NextTaken m (copied m t.now) work.new 1 (assignments_in_order m (copied m t.now)) tasks }
 {

@@ -1,13 +1,17 @@
--- `better` meets its contract, by the flag. Assumes nothing.
-use Rattle.roots.proofs.Choosing.{no_slot, some_slot}
+-- By the slot. Assumes nothing.
+use Rattle.std.proofs.Common.{List, ℕ, ◌∙◌, ap}
+use Rattle.records.specs.Record.{slot_at}
+use Rattle.roots.proofs.Choosing.{empty_slot, full_slot, no_slot, some_slot}
 use Rattle.roots.proofs.better.Goals as goal
 
-pub returns-then-not-slot_flag : goal.returns-then-not-slot_flag
-returns-then-not-slot_flag c =
+pub returns-in-None : goal.returns-in-None
+returns-in-None c =
     let a = c.args in
-    (no_slot a.work.now a.n a.j a.b _ c.slot_flag.ensures c.if-not-slot_flag.true-raw, c.requires.2)
+    let none = c.in-None.ensures ∙ ap (λ (fs : List (List ℕ)). slot_at fs a.j) c.at.ensures in
+    (no_slot a.work.now a.n a.j a.b (empty_slot _ _ none), c.requires.2)
 
-pub returns : goal.returns
-returns c =
+pub returns-in-Some : goal.returns-in-Some
+returns-in-Some c =
     let a = c.args in
-    (some_slot a.work.now a.n a.j a.b _ _ c.slot_flag.ensures c.if-not-slot_flag.false-raw c.first_of.ensures.0, c.first_of.ensures.1)
+    let some = c.in-Some.ensures ∙ ap (λ (fs : List (List ℕ)). slot_at fs a.j) c.at.ensures in
+    (some_slot a.work.now a.n a.j a.b _ (full_slot _ _ _ some) c.first_of.ensures.0, c.first_of.ensures.1)

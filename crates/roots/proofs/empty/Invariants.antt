@@ -1,7 +1,5 @@
 -- `empty` meets its contract: the numbers below k have no choice. Assumes nothing.
-use mathlib.Core.Path.{◌≡◌}
-use Prim.Native.Nat.{◌≤◌}
-use lib.ListN.{length}
+use Rattle.std.proofs.Common.{◌≡◌, ◌≤◌, length}
 use Rattle.roots.specs.Tournament.{Emptied}
 use Rattle.roots.proofs.empty.Given as goal
 

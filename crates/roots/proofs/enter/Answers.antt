@@ -1,5 +1,5 @@
 -- `enter` meets its contract. Assumes nothing.
-use native.Mathlib.Omega.{arith}
+use Rattle.std.proofs.Common.{arith}
 use Rattle.roots.proofs.Replaying.{played_emptied, root_entered}
 use Rattle.roots.proofs.enter.Goals as goal
 

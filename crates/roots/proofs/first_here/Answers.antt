@@ -1,5 +1,5 @@
 -- `first_here` meets its contract. Assumes nothing.
-use lib.ListN.{length}
+use Rattle.std.proofs.Common.{length}
 use Rattle.roots.proofs.Playing.{win_inside, own_inside, first_inside, here_read}
 use Rattle.roots.proofs.first_here.Goals as goal
 

@@ -1,5 +1,5 @@
 -- `next_slot` meets its contract: the choice at number 0. Assumes nothing.
-use mathlib.Core.Path.{sym, subst}
+use Rattle.std.proofs.Common.{sym, subst}
 use Rattle.roots.specs.Slots.{slots_at}
 use Rattle.roots.specs.Choices.{ChosenOf}
 use Rattle.roots.proofs.Winner.{winner_right}

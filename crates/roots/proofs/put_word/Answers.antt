@@ -1,6 +1,5 @@
 -- `put_word` meets its contract. Assumes nothing.
-use mathlib.Core.Path.{ap₂}
-use Prim.Native.Nat.{ℕ, ◌+◌, ◌*◌}
+use Rattle.std.proofs.Common.{ap₂, ℕ, ◌+◌, ◌*◌}
 use Rattle.roots.proofs.Codes.{word_put}
 use Rattle.roots.proofs.put_word.Goals as goal
 

@@ -1,6 +1,5 @@
 -- `replay` meets its contract: the tournament is played but for number at. Assumes nothing.
-use mathlib.Core.Path.{subst, sym, ◌∙◌}
-use Prim.Native.Nat.{ℕ}
+use Rattle.std.proofs.Common.{subst, sym, ◌∙◌, ℕ}
 use Rattle.roots.specs.Tournament.{first_here, own_at, WordPut}
 use Rattle.roots.proofs.Replaying.{replay_more, replay_all}
 use Rattle.roots.proofs.replay.Goals as goal

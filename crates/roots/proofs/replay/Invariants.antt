@@ -1,6 +1,5 @@
 -- `replay` meets its contract: the tournament is played but for number at. Assumes nothing.
-use mathlib.Core.Path.{◌≡◌}
-use lib.ListN.{length}
+use Rattle.std.proofs.Common.{◌≡◌, length}
 use Rattle.roots.proofs.Replaying.{Replaying}
 use Rattle.roots.proofs.replay.Given as goal
 
