@@ -6,23 +6,20 @@ ghost use Rattle.deck.specs.Calls.{collision_call};
 ghost use Rattle.deck.specs.Numbers.{collision_numbers};
 ghost use Rattle.collision.specs.Meant.{Meant};
 
-use deck::{CollisionAnswer, causes};
+use deck::{Cause, Collision};
 
 // Document 01's call, for any m, h and words.
-pub fn first_collision(m: u8, h: u8, paths: &[u16]) -> CollisionAnswer
+pub fn first_collision(m: u8, h: u8, paths: &[u16]) -> Result<Option<Collision>, Cause>
     ensures call { collision_numbers result ≡ collision_numbers (collision_call m h paths.now) }
     ensures meant { Meant m h paths.now result }
 {
-    let count = m as usize;
-    let last = h as usize;
-    if count < 1 {
-        return CollisionAnswer::Refused(causes::BAD_COUNT);
-    }
-    if 12 < count {
-        return CollisionAnswer::Refused(causes::BAD_COUNT);
+    let count = usize::from(m);
+    let last = usize::from(h);
+    if !(1..=12).contains(&count) {
+        return Err(Cause::BadCount);
     }
     if paths.len() != count * (last + 1) {
-        return CollisionAnswer::Refused(causes::WRONG_LENGTH);
+        return Err(Cause::WrongLength);
     }
-    collision_scan::first_among(count, last, paths)
+    Ok(collision_scan::first_among(count, last, paths))
 }
