@@ -5,4 +5,3 @@ pub mod Gating
 pub mod Stepping
 pub mod Advancing
 pub mod Keeping
-pub mod Copying
