@@ -1,4 +1,3 @@
 pub mod Padded
 pub mod Ways
 pub mod Bars
-pub mod Rest
