@@ -1,21 +1,15 @@
 -- What is listed so far, and what the loop comes to. Assumes nothing.
-use Prim.Native.Nat.{ℕ, zero, suc, ◌+◌, ◌*◌, ◌-◌, ◌≤◌}
-use mathlib.Core.Path.{◌≡◌, refl, sym, ap, subst, ◌∙◌}
-use mathlib.Core.Logic.{◌≢◌}
-use mathlib.Core.Bool.{Bool}
-use mathlib.Core.List.{List, [], ◌∷◌, ◌++◌, append_assoc, append-nil}
-use Rattle.std.specs.Prelude.{Option, None, Some}
-use native.Mathlib.Numerals.{add-one}
-use native.Mathlib.Omega.{arith}
-use lib.ListN.{length, take, drop, length-append, take-append-drop}
-use lib.Seq.{take_at, drop_at, drop-drop, take_all}
+use Rattle.std.proofs.Common.{ℕ, zero, suc, ◌+◌, ◌*◌, ◌-◌, ◌≤◌, ◌≡◌, refl, sym, ap, subst, ◌∙◌, ◌≢◌, List, [], ◌∷◌, ◌++◌, append_assoc, append-nil, le-leb, eq-eqb, ne_eqb, ◌<◌, add-one, arith, length, take, drop, length-append, take_at, drop_at, drop-drop, take_all}
+use Rattle.std.specs.Prelude.{Option, None, Some, Ok, Err}
+use Rattle.std.proofs.lemmas.Bool.{lt-leb}
 use Rattle.deck.specs.Lists.{head_of}
 use Rattle.deck.specs.Assignments.{assignments_in_order, least_assignment}
 use Rattle.deck.specs.Calls.{task_list, overwrite, assignment_cause}
-use Rattle.records.specs.Cut.{part, put}
+use Rattle.records.specs.Cut.{put}
 use Rattle.roots.specs.Tournament.{SlotsHold, NextTaken}
 use Rattle.roots.proofs.Filling.{list_long}
-use Rattle.in_order.specs.declared.Count.{Count}
+use Rattle.deck.specs.declared.cause.Cause.{Cause}
+use Rattle.deck.specs.declared.cause.Cause.TheVariants.{BadCount}
 use Rattle.in_order.specs.Listed.{lists_of, room_for, listed_for, Remaining, Taken, Listing, InOrderCall}
 
 -- LISTS
@@ -113,16 +107,11 @@ none_first m table e = go (assignments_in_order m table) e
     go [] e = refl
     go (a ∷ l) e = let z : ◌≡◌ {A = ℕ} 0 1 = ap is e in absurd (omega arith)
 
--- a part that came back as it was
-pub put_same : (a k : ℕ) (ys xs : List ℕ) → ys ≡ part a k xs → put a k ys xs ≡ xs
-put_same a k ys xs e =
-    ap (λ (l : List ℕ). put a k l xs) e ∙ ap (λ (l : List ℕ). take a xs ++ l) (take-append-drop k (drop a xs)) ∙ take-append-drop a xs
-
 -- WHAT REMAINS, by whether the first is taken
-pub taken_first : (m : ℕ) (table work after out out' : List ℕ) (made : ℕ) (rest : List (List ℕ)) (r : Bool) → made ≡ 0 → Remaining m table work made rest
-    → Taken m table after 0 (assignments_in_order m table) out out' r → Taken m table after made rest out out' r
-taken_first m table work after out out' zero rest r e R T = subst (λ (l : List (List ℕ)). Taken m table after 0 l out out' r) (sym R) T
-taken_first m table work after out out' (suc k) rest r e R T = absurd (omega (arith, e))
+pub taken_first : (m : ℕ) (table work after : List ℕ) (made : ℕ) (rest : List (List ℕ)) (r : Option (List ℕ)) → made ≡ 0 → Remaining m table work made rest
+    → Taken m table after 0 (assignments_in_order m table) r → Taken m table after made rest r
+taken_first m table work after zero rest r e R T = subst (λ (l : List (List ℕ)). Taken m table after 0 l r) (sym R) T
+taken_first m table work after (suc k) rest r e R T = absurd (omega (arith, e))
 
 pub slots_remain : (m : ℕ) (table work : List ℕ) (made : ℕ) (rest : List (List ℕ)) → made ≢ 0 → Remaining m table work made rest → SlotsHold m table work made rest
 slots_remain m table work zero rest n R = absurd (n refl)
@@ -134,18 +123,34 @@ length_take_most (suc n) [] = omega arith
 length_take_most (suc n) (x ∷ l) = omega (arith, length_take_most n l)
 
 -- THE CALL
-module _ (m : ℕ) (table work lists work' lists' : List ℕ) where
-  pub refused : (r : Count) → r ≡ (record { cause = 12; count = 0 }) → assignment_cause m table ≡ 12 → work' ≡ work → lists' ≡ lists → InOrderCall m table work lists r work' lists'
-  unfolding listed_for
-  refused r q e w l = rw (q, l) (record { cause = sym e; count = rw e; written = rw e; unwritten = λ n. w; low = omega arith })
+module _ (m : ℕ) (table : List ℕ) where
+  pub count_low : m < 1 → assignment_cause m table ≡ Some BadCount
+  unfolding assignment_cause
+  count_low h = rw (lt-leb 1 m h) refl
 
-  pub accepted : (r : Count) (most : ℕ) → r.cause ≡ 0 → assignment_cause m table ≡ None → most ≡ room_for (length work) (length lists) → most ≤ 4096
-      → Listing m table most r.count lists lists' → InOrderCall m table work lists r work' lists'
+  pub count_high : 12 < m → assignment_cause m table ≡ Some BadCount
+  unfolding assignment_cause
+  count_high h = rw (le-leb 1 m (omega arith), lt-leb m 12 h) refl
+
+  pub wrong_size : 1 ≤ m → m ≤ 12 → length table ≢ m * m → assignment_cause m table ≡ Some BadCount
+  unfolding assignment_cause
+  wrong_size h k n = rw (le-leb 1 m h, le-leb m 12 k, ne_eqb (length table) (m * m) n) refl
+
+  pub right_size : 1 ≤ m → m ≤ 12 → length table ≡ m * m → assignment_cause m table ≡ None
+  unfolding assignment_cause
+  right_size h k e = rw (le-leb 1 m h, le-leb m 12 k, eq-eqb (length table) (m * m) e) refl
+
+module _ (m : ℕ) (table work lists : List ℕ) where
+  pub refused : (c : Cause) → assignment_cause m table ≡ Some c → InOrderCall m table work lists (Err c) work lists
   unfolding listed_for
-  accepted r most z e f h L = record {
-    cause = z ∙ sym e;
-    count = L.count ∙ rw (e, f);
+  refused c e = record { answer = rw e refl; written = rw e refl; unwritten = λ n. refl; low = tt }
+
+  pub accepted : (work' lists' : List ℕ) (most k : ℕ) → assignment_cause m table ≡ None → most ≡ room_for (length work) (length lists) → most ≤ 4096
+      → Listing m table most k lists lists' → InOrderCall m table work lists (Ok k) work' lists'
+  unfolding listed_for
+  accepted work' lists' most k e f h L = record {
+    answer = rw (e, ← f) (ap (λ (n : ℕ). Ok n) L.count);
     written = L.written ∙ rw (e, f);
-    unwritten = λ n. absurd (n z);
+    unwritten = λ n. absurd (n e);
     low = omega (arith, L.count, length_take_most most (assignments_in_order m table));
   }

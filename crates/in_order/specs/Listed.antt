@@ -1,10 +1,11 @@
 -- The call that lists the assignments in order, and what its steps leave. Assumes nothing.
-use Rattle.std.specs.Prelude.{ℕ, zero, suc, ◌+◌, ◌/◌, ◌≤◌, min, ◌≡◌, ◌≢◌, Bool, true, false, List, [], map, length, take}
+use Rattle.std.specs.Prelude.{ℕ, zero, suc, ◌+◌, ◌/◌, ◌≤◌, min, ◌≡◌, ◌≢◌, Option, None, Some, Result, IfOk, List, [], map, length, take}
 use Rattle.deck.specs.Lists.{flat}
 use Rattle.deck.specs.Assignments.{assignments_in_order}
 use Rattle.deck.specs.Calls.{task_list, overwrite, assignment_cause}
 use Rattle.roots.specs.Tournament.{SlotsHold, NextTaken}
-use Rattle.in_order.specs.declared.Count.{Count}
+use Rattle.deck.specs.Causes.{answer_unless, accepted_else}
+use Rattle.deck.specs.declared.cause.Cause.{Cause}
 
 -- assignments as lists of 12, one after the other
 abbrev pub lists_of : List (List ℕ) → List ℕ
@@ -15,27 +16,25 @@ unfoldable pub room_for : ℕ → ℕ → ℕ
 room_for work lists = min (min 4096 (work / 512)) (lists / 12)
 
 -- the assignments that are listed, by the cause
-unfoldable pub listed_for : ℕ → ℕ → ℕ → List ℕ → List (List ℕ)
-listed_for zero room m table = take room (assignments_in_order m table)
-listed_for (suc c) room m table = []
+unfoldable pub listed_for : Option Cause → ℕ → ℕ → List ℕ → List (List ℕ)
+listed_for c room m table = accepted_else c (take room (assignments_in_order m table)) []
 
 -- THE CALL: its answer, and the lent words afterwards
-pub record InOrderCall (m : ℕ) (table work lists : List ℕ) (r : Count) (work' lists' : List ℕ) : Type 0 where
-  pub cause : r.cause ≡ assignment_cause m table
-  pub count : r.count ≡ length (listed_for (assignment_cause m table) (room_for (length work) (length lists)) m table)
+pub record InOrderCall (m : ℕ) (table work lists : List ℕ) (r : Result ℕ Cause) (work' lists' : List ℕ) : Type 0 where
+  pub answer : r ≡ answer_unless (assignment_cause m table) (length (listed_for (assignment_cause m table) (room_for (length work) (length lists)) m table))
   pub written : lists' ≡ overwrite (lists_of (listed_for (assignment_cause m table) (room_for (length work) (length lists)) m table)) lists
-  pub unwritten : r.cause ≢ 0 → work' ≡ work
-  pub low : r.count ≤ 4096
+  pub unwritten : assignment_cause m table ≢ None → work' ≡ work
+  pub low : IfOk r (λ k. k ≤ 4096)
 
 -- ITS STEPS. What remains after `made` assignments: all of them, or those that the slots of the roots hold
 abbrev pub Remaining : ℕ → List ℕ → List ℕ → ℕ → List (List ℕ) → Type 0
 Remaining m table work zero rest = rest ≡ assignments_in_order m table
 Remaining m table work (suc k) rest = SlotsHold m table work (suc k) rest
 
--- the next assignment of those that remain is taken and its list written; or none remains and nothing is written
-abbrev pub Taken : ℕ → List ℕ → List ℕ → ℕ → List (List ℕ) → (out out' : List ℕ) → Bool → Type 0
-Taken m table after made rest out out' true = NextTaken m table after (made + 1) rest out'
-Taken m table after made rest out out' false = (rest ≡ []) × (out' ≡ out)
+-- the next assignment of those that remain is taken, and this is its list; or none remains
+abbrev pub Taken : ℕ → List ℕ → List ℕ → ℕ → List (List ℕ) → Option (List ℕ) → Type 0
+Taken m table after made rest None = rest ≡ []
+Taken m table after made rest (Some tasks) = NextTaken m table after (made + 1) rest tasks
 
 -- the first `most` assignments in order are listed: r of them
 pub record Listing (m : ℕ) (table : List ℕ) (most r : ℕ) (lists lists' : List ℕ) : Type 0 where

@@ -1,14 +1,18 @@
--- `in_order::take_first` meets its contract. Assumes nothing.
-use mathlib.Core.Path.{refl}
-use borrow.Author.Tests.{not-true, not-false}
+-- There is a first assignment, or none at all. Assumes nothing.
+use Rattle.std.proofs.Common.{sym, subst}
+use Rattle.prices.specs.Square.{copied}
+use Rattle.deck.specs.Assignments.{assignments_in_order}
 use Rattle.candidates.proofs.Slots.{not_found, found}
+use Rattle.in_order.specs.Listed.{Taken}
 use Rattle.in_order.proofs.Progress.{none_first}
 use Rattle.in_order.proofs.take_first.Goals as goal
 
-pub returns-then-not-first : goal.returns-then-not-first
-returns-then-not-first c =
-    (none_first c.args.m _ (not_found c.args.m _ _ c.first-first.result c.first-first.ensures (not-true _ c.if-not-first.true)), refl)
+pub returns-in_err-first : goal.returns-in_err-first
+returns-in_err-first c =
+    let table = copied c.args.m c.args.t.now in
+    subst (Taken c.args.m table c.args.work.now 0 (assignments_in_order c.args.m table)) (sym c.from_residual.ensures)
+    (none_first c.args.m table (not_found c.args.m table _ c.first.result c.first.ensures c.in_err-first.was))
 
 pub first_root-requires : goal.first_root-requires
 first_root-requires c =
-    (c.requires.0, c.requires.1, c.requires.2, found c.args.m _ _ c.first-first.result c.first-first.ensures (not-false _ c.if-not-first.false))
+    (c.requires.0, c.requires.1, c.requires.2, found c.args.m (copied c.args.m c.args.t.now) _ c.first.result c.in_ok-first.first c.first.ensures c.in_ok-first.was)

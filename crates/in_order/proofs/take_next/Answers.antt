@@ -1,16 +1,14 @@
--- `in_order::take_next` meets its contract. Assumes nothing.
-use mathlib.Core.Path.{refl, subst}
+-- A slot remains, or no assignment. Assumes nothing.
+use Rattle.std.proofs.Common.{sym, subst}
 use Rattle.prices.specs.Square.{copied}
 use Rattle.roots.specs.Tournament.{FirstSlot}
 use Rattle.roots.proofs.Made.{nothing_left}
+use Rattle.in_order.specs.Listed.{Taken}
 use Rattle.in_order.proofs.take_next.Goals as goal
 
-pub returns-in_default : goal.returns-in_default
-returns-in_default c =
-    let n = c.next_slot in
+pub returns-in_err-chosen : goal.returns-in_err-chosen
+returns-in_err-chosen c =
     let a = c.args in
-    λ rest h. (
-      nothing_left a.m (copied a.m a.t.now) a.work.now a.made rest c.requires.0 h
-          (subst (FirstSlot a.m a.work.now a.made) c.in_default.is n.ensures),
-      refl,
-    )
+    let table = copied a.m a.t.now in
+    λ rest h. subst (Taken a.m table a.work.now a.made rest) (sym c.from_residual.ensures)
+    (nothing_left a.m table a.work.now a.made rest c.requires.0 h (subst (FirstSlot a.m a.work.now a.made) c.in_err-chosen.was c.next_slot.ensures))
