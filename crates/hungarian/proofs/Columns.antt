@@ -150,15 +150,15 @@ module _ (w u v : List ℕ) (total i : ℕ) (old : List Column) where
 
 -- WHAT THE WAYS OVER ROW i CHANGE
 module _ (m : ℕ) (w u v : List ℕ) (columns : List Bool) (total i : ℕ) (near from near' from' : List ℕ) (R : Relaxed m w u v columns total i near from near' from') where
-  pub label_kept : (k : ℕ) → k < m → marked columns k ≡ true → (near' at k ≡ near at k) × (from' at k ≡ from at k)
-  label_kept k l h =
+  pub column_kept : (k : ℕ) → k < m → marked columns k ≡ true → (near' at k ≡ near at k) × (from' at k ≡ from at k)
+  column_kept k l h =
       let e = R.each k l ∙ nearer_marked (column_at (marked columns k) (near at k) (from at k)) total (slack_of w u v i k) i h in
       (ap (λ (x : Column). x.near) e, ap (λ (x : Column). x.from.0) e)
 
-  pub label_moved : (k : ℕ) → k < m → marked columns k ≡ false
+  pub column_moved : (k : ℕ) → k < m → marked columns k ≡ false
       → ((near' at k ≡ near at k) × (from' at k ≡ from at k) × (near at k - total ≤ slack_of w u v i k))
       ⊎ ((near' at k ≡ total + slack_of w u v i k) × (from' at k ≡ i) × (slack_of w u v i k < near at k - total))
-  label_moved k l h = ⊎_elim
+  column_moved k l h = ⊎_elim
       (λ g. let e = R.each k l ∙ nearer_less (column_at (marked columns k) (near at k) (from at k)) total s i h g in
       inr (ap (λ (x : Column). x.near) e, ap (λ (x : Column). x.from.0) e, g))
       (λ g. let e = R.each k l ∙ nearer_kept (column_at (marked columns k) (near at k) (from at k)) total s i h g in

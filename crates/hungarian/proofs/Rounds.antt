@@ -17,7 +17,7 @@ use Rattle.hungarian.specs.declared.Column.{Column}
 use Rattle.hungarian.specs.declared.Pairs.{Pairs}
 use Rattle.hungarian.specs.declared.Edge.{Edge}
 use Rattle.hungarian.specs.Solving.{task_number, carrier_number, task_numbers, carrier_numbers, froms, paired, Within, marked, unmarked, farthest, slack_of, Slacks, Relaxed, Closest, in_tree, way_to, gain_of, row_gain, row_price, column_price, Light, Solved, Grown, Way, Reaches}
-use Rattle.hungarian.proofs.Columns.{blank, from_at, label_kept, label_moved}
+use Rattle.hungarian.proofs.Columns.{blank, from_at, column_kept, column_moved}
 use Rattle.hungarian.proofs.Gains.{task_at, put_set, unmarked_set, tree_root, tree_column, tree_none, tree_row, way_root, way_column, gain_in, gain_out}
 
 none_marked : (k : ℕ) → marked (replicate 12 false) k ≡ false
@@ -100,7 +100,7 @@ module _ (m : ℕ) (w : List ℕ) (r : ℕ) (small : m ≤ 12) (low : r < m) (li
 
     T' : Tree m (cell w) r U Y (◌at◌ task) (◌at◌ carrier) rows (marked columns) (◌at◌ from') G.order G.n
     T' = same_from m (cell w) r U Y (◌at◌ task) (◌at◌ carrier) rows (marked columns) (◌at◌ from) G.order G.n (◌at◌ from') G.tree
-        (λ k lk h. (label_kept m w u v columns total i near from near' from' R k lk h).1)
+        (λ k lk h. (column_kept m w u v columns total i near from near' from' R k lk h).1)
 
     -- the ways to the rows of the tree are final
     way_kept : (x : ℕ) → rows x ≡ true → way_to r task near' x ≡ way_to r task near x
@@ -109,7 +109,7 @@ module _ (m : ℕ) (w : List ℕ) (r : ℕ) (small : m ≤ 12) (low : r < m) (li
         go : Dec (x ≡ r) → way_to r task near' x ≡ way_to r task near x
         go (yes q) = rw q (way_root r task near' ∙ sym (way_root r task near))
         go (no q) = ⊎_elim (λ z. absurd (q z))
-            (λ z. way_column r task near' x q ∙ (label_kept m w u v columns total i near from near' from' R (task at x) z.0 z.1).0 ∙ sym (way_column r task near x q))
+            (λ z. way_column r task near' x q ∙ (column_kept m w u v columns total i near from near' from' R (task at x) z.0 z.1).0 ∙ sym (way_column r task near x q))
             (tree_row m r task columns x h)
 
     -- and no longer than total
@@ -126,13 +126,13 @@ module _ (m : ℕ) (w : List ℕ) (r : ℕ) (small : m ≤ 12) (low : r < m) (li
 
     reach : (y : ℕ) → y < m → marked columns y ≡ false
         → (from' at y < m) × (rows (from' at y) ≡ true) × (u at (from' at y) + near' at y ≡ way_to r task near (from' at y) + (cell w (from' at y) y + v at y)) × (near' at y < farthest)
-    reach y ly h = go (label_moved m w u v columns total i near from near' from' R y ly h) (G.exact y ly h)
+    reach y ly h = go (column_moved m w u v columns total i near from near' from' R y ly h) (G.exact y ly h)
       where
         P : ℕ → ℕ → Type 0
         P f d = (f < m) × (rows f ≡ true) × (u at f + d ≡ way_to r task near f + (cell w f y + v at y)) × (d < farthest)
 
-        at_labels : (f d : ℕ) → from' at y ≡ f → near' at y ≡ d → P f d → P (from' at y) (near' at y)
-        at_labels f d p q g = subst (λ (z : ℕ). P z (near' at y)) (sym p) (subst (P f) (sym q) g)
+        at_column : (f d : ℕ) → from' at y ≡ f → near' at y ≡ d → P f d → P (from' at y) (near' at y)
+        at_column f d p q g = subst (λ (z : ℕ). P z (near' at y)) (sym p) (subst (P f) (sym q) g)
 
         bound : (near at y < farthest) ⊎ (near at y ≡ farthest) → near at y ≤ farthest
         bound (inl g) = omega arith
@@ -143,15 +143,15 @@ module _ (m : ℕ) (w : List ℕ) (r : ℕ) (small : m ≤ 12) (low : r < m) (li
             → ((near at y ≡ farthest) × (total ≡ 0)) ⊎ ((from at y < m) × (rows (from at y) ≡ true)
             × (u at (from at y) + near at y ≡ way_to r task near (from at y) + (cell w (from at y) y + v at y)) × (near at y < farthest))
             → P (from' at y) (near' at y)
-        go (inl (p, q, k)) (inr old) = at_labels (from at y) (near at y) q p old
+        go (inl (p, q, k)) (inr old) = at_column (from at y) (near at y) q p old
         go (inl (p, q, k)) (inl (f, z)) = absurd (omega (arith, k, f, z, slacks i y G.newest.0 ly))
         go (inr (p, q, k)) old =
             let top = bound (⊎_elim (λ o. inr o.0) (λ o. inl o.3) old) in
-            at_labels i (total + slack_of w u v i y) q p
+            at_column i (total + slack_of w u v i y) q p
             (G.newest.0, G.newest.1, omega (arith, newest_way y ly, G.newest.2), omega (arith, k, top))
 
     no_shorter : (x y : ℕ) → x < m → y < m → rows x ≡ true → marked columns y ≡ false → u at x + near' at y ≤ way_to r task near x + (cell w x y + v at y)
-    no_shorter x y lx ly h out = go (ℕ_discrete x i) (label_moved m w u v columns total i near from near' from' R y ly out)
+    no_shorter x y lx ly h out = go (ℕ_discrete x i) (column_moved m w u v columns total i near from near' from' R y ly out)
       where
         go : Dec (x ≡ i) → ((near' at y ≡ near at y) × (from' at y ≡ from at y) × (near at y - total ≤ slack_of w u v i y))
             ⊎ ((near' at y ≡ total + slack_of w u v i y) × (from' at y ≡ i) × (slack_of w u v i y < near at y - total))
@@ -162,7 +162,7 @@ module _ (m : ℕ) (w : List ℕ) (r : ℕ) (small : m ≤ 12) (low : r < m) (li
         go (no q) (inr (p, f, k)) = omega (arith, p, k, G.least x y lx ly h q out)
 
     later : (y : ℕ) → y < m → marked columns y ≡ false → total ≤ near' at y
-    later y ly h = ⊎_elim (λ z. omega (arith, z.0, G.late y ly h)) (λ z. omega (arith, z.0)) (label_moved m w u v columns total i near from near' from' R y ly h)
+    later y ly h = ⊎_elim (λ z. omega (arith, z.0, G.late y ly h)) (λ z. omega (arith, z.0)) (column_moved m w u v columns total i near from near' from' R y ly h)
 
     -- a column outside the tree is there, and the nearest of these is found
     next_column : (e.task.0 < m) × (marked columns e.task.0 ≡ false) × (near' at e.task.0 ≡ e.near)
@@ -209,7 +209,7 @@ module _ (m : ℕ) (w : List ℕ) (r : ℕ) (small : m ≤ 12) (low : r < m) (li
     ways_early x h = omega (arith, way_kept x h, way_early x h, farther)
 
     columns_early : (y : ℕ) → y < m → marked columns y ≡ true → near' at y ≤ e.near
-    columns_early y ly h = omega (arith, (label_kept m w u v columns total i near from near' from' R y ly h).0, G.early y ly h, farther)
+    columns_early y ly h = omega (arith, (column_kept m w u v columns total i near from near' from' R y ly h).0, G.early y ly h, farther)
 
     in_raised : (x : ℕ) → rows x ≡ true → row_price m r u task columns near' e.near x ≡ U x + d
     in_raised x h = omega (arith, in_price x h, gain_in m r task columns near' e.near x h, way_kept x h, way_early x h, farther)
@@ -223,7 +223,7 @@ module _ (m : ℕ) (w : List ℕ) (r : ℕ) (small : m ≤ 12) (low : r < m) (li
           arith,
           some_gain (marked columns y) (near' at y) e.near h,
           some_gain (marked columns y) (near at y) total h,
-          (label_kept m w u v columns total i near from near' from' R y ly h).0,
+          (column_kept m w u v columns total i near from near' from' R y ly h).0,
           G.early y ly h,
           farther,
         )
@@ -346,7 +346,7 @@ module _ (m : ℕ) (w : List ℕ) (r : ℕ) (small : m ≤ 12) (low : r < m) (li
             arith,
             some_gain (marked columns' y) (near' at y) e.near (marked_other y n ∙ h),
             some_gain (marked columns y) (near at y) total h,
-            (label_kept m w u v columns total i near from near' from' R y ly h).0,
+            (column_kept m w u v columns total i near from near' from' R y ly h).0,
             G.early y ly h,
             farther,
           )

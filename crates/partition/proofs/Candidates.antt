@@ -1,16 +1,8 @@
 -- A part's candidate is its first assignment in order, and the least assignment of the part's table. Assumes nothing.
-use Prim.Native.Nat.{ℕ, ◌≤◌, ◌<◌}
-use mathlib.Core.Path.{◌≡◌, refl, sym, ◌∙◌}
-use mathlib.Core.Logic.{◌⊎◌, inl, inr, ⊎_elim}
-use mathlib.Core.Bool.{cond, not}
+use Rattle.std.proofs.Common.{ℕ, ◌≤◌, ◌<◌, ◌≡◌, refl, sym, ◌∙◌, ◌⊎◌, inl, inr, ⊎_elim, cond, not, List, Option, None, Some, le_refl, arith, eqb, lt-ltb, le-ltb, eq-eqb, ne_eqb}
 use mathlib.Core.List.Memᴰ.{not-nil}
-use mathlib.Core.List.{List, Memᴰ as Mem}
-use Rattle.std.specs.Prelude.{Option, None, Some}
+use mathlib.Core.List.{Memᴰ as Mem}
 use native.Mathlib.Decide.{ℕ_discrete}
-use native.Mathlib.Nat.{le_refl}
-use native.Mathlib.Omega.{arith}
-use lib.Dec.{eqb}
-use borrow.Author.Tests.{lt-ltb, le-ltb, eq-eqb, ne_eqb}
 use Rattle.deck.specs.Lists.{below, select, head_of}
 use Rattle.deck.specs.Assignments.{barred, entry_at, sum_of, assignments_in_order, least_assignment}
 use Rattle.meaning.specs.Meaning.{◌at◌, Assignment, Unbarred, Less}

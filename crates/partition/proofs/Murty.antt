@@ -1,20 +1,8 @@
 -- The least of the slots' first assignments is the next in order, and its part's slots then hold what remains of it. So taking the
 -- best slot again and again hands out the assignments in order. Assumes nothing.
-use Prim.Native.Nat.{ℕ, zero, suc, ◌+◌, ◌-◌, ◌≤◌, ◌<◌}
-use mathlib.Core.Path.{◌≡◌, refl, sym, ap, subst, ◌∙◌}
-use mathlib.Core.Logic.{◌⊎◌, inl, inr, ⊎_elim, ◌≢◌}
-use mathlib.Core.List.Memᴰ.{append_cases as cases_append}
-use mathlib.Core.List.Memᴰ.{append_left as in_left}
-use mathlib.Core.List.Memᴰ.{append_right as in_right}
-use mathlib.Core.List.Memᴰ.{cases_cons}
-use mathlib.Core.List.Memᴰ.{eq_of_singleton as only}
-use mathlib.Core.List.Memᴰ.{head as here}
-use mathlib.Core.List.Memᴰ.{not-nil}
-use mathlib.Core.List.Memᴰ.{tail as there}
-use mathlib.Core.List.{List, [], ◌∷◌, ◌++◌, Memᴰ as Mem}
-use Rattle.std.specs.Prelude.{Option, None, Some}
-use native.Mathlib.Omega.{arith}
-use lib.ListN.{length}
+use Rattle.std.proofs.Common.{ℕ, zero, suc, ◌+◌, ◌-◌, ◌≤◌, ◌<◌, ◌≡◌, refl, sym, ap, subst, ◌∙◌, ◌⊎◌, inl, inr, ⊎_elim, ◌≢◌, List, [], ◌∷◌, ◌++◌, Option, None, Some, arith, length}
+use mathlib.Core.List.Memᴰ.{append_cases as cases_append, append_left as in_left, append_right as in_right, cases_cons, eq_of_singleton as only, head as here, not-nil, tail as there}
+use mathlib.Core.List.{Memᴰ as Mem}
 use Rattle.deck.specs.Lists.{count_from, each}
 use Rattle.deck.specs.Assignments.{assignments_in_order, least_assignment}
 use Rattle.meaning.specs.Meaning.{◌at◌, Assignment, Unbarred, Less}

@@ -1,16 +1,7 @@
 -- The slots of a part from which an assignment is taken: they hold the others, and no two have one in common. Assumes nothing.
-use Prim.Native.Nat.{ℕ, zero, suc, ◌≤◌, ◌<◌}
-use mathlib.Core.Path.{◌≡◌, refl, sym, ap, subst, ◌∙◌}
-use mathlib.Core.Logic.{◌⊎◌, inl, inr, ⊎_elim, ◌≢◌}
-use mathlib.Core.Bool.{Bool, true, false, cond}
-use mathlib.Core.List.{List}
-use native.Mathlib.Nat.{not-suc-le-zero, eq-or-lt_of_le, le_of_suc-le-suc, le_refl}
+use Rattle.std.proofs.Common.{ℕ, zero, suc, ◌≤◌, ◌<◌, ◌≡◌, refl, sym, ap, subst, ◌∙◌, ◌⊎◌, inl, inr, ⊎_elim, ◌≢◌, Bool, true, false, cond, List, not-suc-le-zero, eq-or-lt_of_le, le_of_suc-le-suc, le_refl, arith, length, set, length-set, ext_get_or, get_or-set_same, get_or-set_other, eqb, eqb-true, eq-eqb}
 use native.Mathlib.Decide.{ℕ_discrete}
-use native.Mathlib.Omega.{arith}
-use lib.ListN.{length, set, length-set, get_or-replicate, get_or-eq_default}
-use lib.Seq.{ext_get_or, get_or-set_same, get_or-set_other}
-use lib.Dec.{eqb}
-use borrow.Author.Tests.{eqb-true, eq-eqb}
+use lib.ListN.{get_or-replicate, get_or-eq_default}
 use Rattle.meaning.specs.Meaning.{◌at◌, Assignment}
 use Rattle.prices.proofs.Growth.{lower}
 use Rattle.partition.specs.Parts.{Part, InPart, none_closed, slot_part}

@@ -1,9 +1,8 @@
 -- Murty's partition: the assignments that are not handed out yet, in parts that have none in common, each with its first assignment
 -- in order. The next assignment in order is the least of these; its part without it is split by the first carrier whose task is
 -- another. Assumes nothing.
-use Rattle.std.specs.Prelude.{ℕ, ◌-◌, ◌<◌, ◌≡◌, ◌⊎◌, Bool, cond, not, ◌&&◌, length, set, replicate, eqb, ltb}
-use mathlib.Core.List.{List, [], ◌∷◌, ◌++◌, Memᴰ as Mem}
-use Rattle.std.specs.Prelude.{Option, None, Some}
+use Rattle.std.specs.Prelude.{ℕ, ◌-◌, ◌<◌, ◌≡◌, ◌⊎◌, Bool, cond, not, ◌&&◌, length, set, replicate, eqb, ltb, List, [], ◌∷◌, ◌++◌, Option, None, Some}
+use mathlib.Core.List.{Memᴰ as Mem}
 use Rattle.deck.specs.Lists.{below, count_from, all, select, each, head_of}
 use Rattle.deck.specs.Assignments.{barred, entry_at, assignments_in_order}
 use Rattle.meaning.specs.Meaning.{◌at◌, Unbarred, Less}

@@ -1,9 +1,6 @@
 -- Weak duality: an assignment on tight entries has the least cost, and then each assignment of that cost is on tight entries.
 -- Assumes nothing.
-use Prim.Native.Nat.{ℕ, ◌+◌, ◌-◌, ◌≤◌, ◌<◌}
-use mathlib.Core.Path.{◌≡◌}
-use mathlib.Core.List.{List, map}
-use native.Mathlib.Omega.{arith}
+use Rattle.std.proofs.Common.{ℕ, ◌+◌, ◌-◌, ◌≤◌, ◌<◌, ◌≡◌, List, map, arith}
 use Rattle.deck.specs.Lists.{below, sum}
 use Rattle.meaning.specs.Meaning.{◌at◌, Assignment}
 use Rattle.meaning.proofs.Lists.{mem_below}

@@ -1,20 +1,9 @@
 -- The assignment of least merged weight is the first in order: its weight is the least, and among those of that weight its list
 -- comes first. There is none exactly if that assignment is heavy. Assumes nothing.
-use Prim.Native.Nat.{ℕ, zero, suc, ◌+◌, ◌-◌, ◌*◌, ◌≤◌, ◌<◌, suc-le-suc, zero-le}
-use mathlib.Core.Path.{◌≡◌, refl, sym, ap, ap₂, subst, ◌∙◌}
-use mathlib.Core.Logic.{◌⊎◌, inl, inr, ⊎_elim, ◌≢◌}
-use mathlib.Core.Bool.{Bool, cond}
-use mathlib.Core.List.Memᴰ.{cases_cons}
-use mathlib.Core.List.Memᴰ.{head as here}
-use mathlib.Core.List.Memᴰ.{not-nil}
-use mathlib.Core.List.Memᴰ.{tail as there}
-use mathlib.Core.List.{List, [], ◌∷◌, map, Memᴰ as Mem}
-use Rattle.std.specs.Prelude.{Option, None, Some}
-use native.Mathlib.Nat.{suc_inj, eq-or-lt_of_le, le_of_suc-le-suc, mul-le-mul_right, suc-mul}
-use native.Mathlib.Omega.{arith}
-use lib.ListN.{length}
-use lib.Dec.{ltb}
-use borrow.Author.Tests.{eq-eqb, ne_eqb, lt-ltb, le-ltb}
+use Rattle.std.proofs.Common.{ℕ, zero, suc, ◌+◌, ◌-◌, ◌*◌, ◌≤◌, ◌<◌, suc-le-suc, zero-le, ◌≡◌, refl, sym, ap, ap₂, subst, ◌∙◌, ◌⊎◌, inl, inr, ⊎_elim, ◌≢◌, Bool, cond, List, [], ◌∷◌, map, Option, None, Some, eq-or-lt_of_le, le_of_suc-le-suc, mul-le-mul_right, suc-mul, arith, length, ltb, eq-eqb, ne_eqb, lt-ltb, le-ltb}
+use mathlib.Core.List.Memᴰ.{cases_cons, head as here, not-nil, tail as there}
+use mathlib.Core.List.{Memᴰ as Mem}
+use native.Mathlib.Nat.{suc_inj}
 use Rattle.deck.specs.Lists.{below, count_from, sum}
 use Rattle.deck.specs.Assignments.{barred, entry_at, sum_of, least_assignment}
 use Rattle.meaning.specs.Meaning.{◌at◌, Assignment, Unbarred, StrictlyBefore, Less}

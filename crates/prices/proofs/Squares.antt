@@ -1,14 +1,8 @@
 -- The entries of a table of m rows and m columns. Assumes nothing.
-use Prim.Native.Nat.{ℕ, ◌+◌, ◌*◌, ◌/◌, ◌%◌, ◌≤◌, ◌<◌}
-use mathlib.Core.Path.{◌≡◌, refl, sym, ap, subst, ◌∙◌}
-use mathlib.Core.Logic.{⊎_elim}
-use mathlib.Core.List.Memᴰ.{head as here}
-use mathlib.Core.List.Memᴰ.{tail as there}
-use mathlib.Core.List.{List, [], ◌∷◌, map, Memᴰ as Mem}
-use native.Mathlib.Nat.{zero-mul, suc-mul, mod-lt, div-lt_iff_lt-mul, div-add-mod'}
-use native.Mathlib.Omega.{arith}
-use lib.ListN.{length, get_or, length-map, length-append}
-use lib.Seq.{ext_get_or}
+use Rattle.std.proofs.Common.{ℕ, ◌+◌, ◌*◌, ◌/◌, ◌%◌, ◌≤◌, ◌<◌, ◌≡◌, refl, sym, ap, subst, ◌∙◌, ⊎_elim, List, [], ◌∷◌, map, zero-mul, suc-mul, mod-lt, div-lt_iff_lt-mul, div-add-mod', arith, length, get_or, length-append, ext_get_or}
+use mathlib.Core.List.Memᴰ.{head as here, tail as there}
+use mathlib.Core.List.{Memᴰ as Mem}
+use lib.ListN.{length-map}
 use Rattle.deck.specs.Lists.{below, each}
 use Rattle.deck.specs.Assignments.{barred, entry_at}
 use Rattle.meaning.proofs.Lists.{mem_below, get_or_count_from, length_count_from, get_or_tabulate, each_at}

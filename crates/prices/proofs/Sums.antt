@@ -1,20 +1,9 @@
 -- Sums over lists of numbers, and over the tasks of an assignment: each task is there once. Assumes nothing.
-use Prim.Native.Nat.{ℕ, zero, suc, ◌+◌, ◌-◌, ◌*◌, ◌≤◌, ◌<◌}
-use mathlib.Core.Path.{◌≡◌, refl, sym, ap, ◌∙◌}
-use mathlib.Core.Logic.{◌⊎◌, inl, inr, ⊎_elim, ◌≢◌}
-use mathlib.Core.Bool.{Bool, true, false, cond, not}
-use mathlib.Core.List.Memᴰ.{cases_cons}
-use mathlib.Core.List.Memᴰ.{eq_of_singleton as only}
-use mathlib.Core.List.Memᴰ.{head as here}
-use mathlib.Core.List.Memᴰ.{not-nil}
-use mathlib.Core.List.Memᴰ.{tail as there}
-use mathlib.Core.List.{List, [], ◌∷◌, map, Memᴰ as Mem}
-use native.Mathlib.Nat.{add-mul, zero-mul}
-use native.Mathlib.Omega.{arith}
-use lib.ListN.{length, get_or, length-map, get_or-map}
-use lib.Seq.{ext_get_or}
-use lib.Dec.{eqb}
-use borrow.Author.Tests.{eqb-true, eqb-false, ne_eqb}
+use Rattle.std.proofs.Common.{ℕ, zero, suc, ◌+◌, ◌-◌, ◌*◌, ◌≤◌, ◌<◌, ◌≡◌, refl, sym, ap, ◌∙◌, ◌⊎◌, inl, inr, ⊎_elim, ◌≢◌, Bool, true, false, cond, not, List, [], ◌∷◌, map, add-mul, zero-mul, arith, length, get_or, ext_get_or, eqb, eqb-true, ne_eqb}
+use mathlib.Core.List.Memᴰ.{cases_cons, eq_of_singleton as only, head as here, not-nil, tail as there}
+use mathlib.Core.List.{Memᴰ as Mem}
+use lib.ListN.{length-map, get_or-map}
+use Rattle.std.proofs.lemmas.Bool.{eqb-false}
 use Rattle.deck.specs.Lists.{below, count_from, select, sum}
 use Rattle.deck.specs.Assignments.{arrangements, assignments}
 use Rattle.meaning.specs.Meaning.{◌at◌, Assignment}

@@ -1,5 +1,5 @@
 -- Working copies of tables, twelve entries to a row, and the weights of their entries. Assumes nothing.
-use Rattle.std.proofs.Common.{ℕ, ◌≤◌, ◌<◌, ◌≡◌, Bool, cond, List}
+use Rattle.std.specs.Prelude.{ℕ, ◌≤◌, ◌<◌, ◌≡◌, Bool, cond, List}
 use Rattle.deck.specs.Assignments.{barred}
 use Rattle.prices.specs.Weights.{weigh, merged}
 use Rattle.prices.specs.Square.{cell}
