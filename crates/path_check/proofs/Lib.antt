@@ -1,3 +1,3 @@
 pub mod Parts
-pub mod Steps
+pub mod Finishes
 pub mod Walks

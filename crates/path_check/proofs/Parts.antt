@@ -1,10 +1,5 @@
 -- What is left of a list from an index on. Assumes nothing.
-use Prim.Native.Nat.{ℕ, ◌+◌, ◌≤◌, ◌<◌}
-use mathlib.Core.Path.{◌≡◌}
-use mathlib.Core.List.{List, [], ◌∷◌}
-use native.Mathlib.Numerals.{add-one}
-use lib.ListN.{length, get_or, drop, drop_of_length-le}
-use lib.Seq.{drop-cons}
+use Rattle.std.proofs.Common.{ℕ, ◌+◌, ◌≤◌, ◌<◌, ◌≡◌, List, [], ◌∷◌, add-one, length, get_or, drop, drop_of_length-le, drop-cons}
 
 module _ {A : Type 0} (d : A) (l : List A) where
   pub rest_next : (k : ℕ) → k < length l → drop k l ≡ get_or l k d ∷ drop (k + 1) l
