@@ -42,8 +42,8 @@ use Rattle.nodes.proofs.Kept.{front_alike, front_keys, kept_stored, kept_nodes, 
 use Rattle.roots.proofs.Begun.{slots_kept_records}
 use Rattle.expand.specs.Children.{Branch, child_task, child_path}
 use Rattle.scratch.specs.Front.{Front}
-use Rattle.expand.specs.Held.{Held, Same, Grew}
-use Rattle.expand.specs.declared.Grown.TheVariants.{Made, Spent}
+use Rattle.expand.specs.Held.{Held, Same, Grew, grown}
+use Rattle.expand.specs.declared.Made.{Made}
 
 -- THE WORDS PAST THE KEYS are no part of what is held
 module _ (d : Sheet) (l : d.limit ≤ 4096) (before after : List ℕ) (made latest : ℕ) (e : Front d.limit before after) (st : State (List ℕ) Constraint) (h : Held d before made latest st) where
@@ -210,14 +210,14 @@ module _ {s mask work bounds : List ℕ} {made latest n : ℕ} {i : Carrier} {c 
 
   -- without a path it is not made
   pub not_made : child_path (read s) work n c ≡ None → (st : State (List ℕ) Constraint) (bound : ℕ) → Held (read s) work made latest st
-      → Grew (read s) after bound (Made made latest) (make_child (problem (read s)) (read s).limit bound (node_at (read s) work n) c st)
+      → Grew (read s) after bound (grown made latest) (make_child (problem (read s)) (read s).limit bound (node_at (read s) work n) c st)
   unfolding problem
   not_made q st bound h = (st, ap (outcome bound st) q, front_held (read s) few work after made latest front st h)
 
   module _ (p : List ℕ) (q : child_path (read s) work n c ≡ Some p) where
     -- where all are made, the search is spent
     pub none_left : made ≡ (read s).limit → (st : State (List ℕ) Constraint) (bound : ℕ) → Held (read s) work made latest st
-        → Grew (read s) after bound Spent (make_child (problem (read s)) (read s).limit bound (node_at (read s) work n) c st)
+        → Grew (read s) after bound None (make_child (problem (read s)) (read s).limit bound (node_at (read s) work n) c st)
     unfolding problem
     none_left e st bound h =
         ap (outcome bound st) q
@@ -269,7 +269,7 @@ module _ {s mask work bounds : List ℕ} {made latest n : ℕ} {i : Carrier} {c 
           }
 
       pub child_made : made < (read s).limit → (st : State (List ℕ) Constraint) (bound : ℕ) → Held (read s) work made latest st
-          → Grew (read s) final bound (Made (made + 1) latest) (make_child (problem (read s)) (read s).limit bound (node_at (read s) work n) c st)
+          → Grew (read s) final bound (grown (made + 1) latest) (make_child (problem (read s)) (read s).limit bound (node_at (read s) work n) c st)
       unfolding problem
       child_made l st bound h = (
         added (child_node (problem (read s)) (node_at (read s) work n) c p ∷ []) st,

@@ -10,6 +10,7 @@ use Rattle.std.specs.Prelude.{Some}
 use native.Mathlib.Omega.{arith}
 use lib.ListN.{length, get_or-eq_default}
 use borrow.Author.Tests.{lt-ltb, le-ltb}
+use Rattle.std.specs.Prelude.{Option, None, Some}
 use Rattle.deck.specs.Sheet.{Sheet, read}
 use Rattle.deck.specs.Assignments.{table_of}
 use Rattle.deck.specs.Search.{State, Turn, root_of, rest_after}
@@ -32,8 +33,8 @@ use Rattle.roots.specs.declared.Choice.TheVariants.{Nothing, Slot as Chosen}
 use Rattle.roots.proofs.Chosen.{live_slot}
 use Rattle.roots.proofs.Begun.{begun_stored, begun_nodes, begun_opened}
 use Rattle.roots.proofs.Made.{nothing_left}
-use Rattle.expand.specs.Held.{Given, Nodes, Held, Begun, Same, Grew}
-use Rattle.expand.specs.declared.Grown.TheVariants.{Made, Spent}
+use Rattle.expand.specs.Held.{Given, Nodes, Held, Begun, Same, Grew, grown}
+use Rattle.expand.specs.declared.Made.{Made}
 use Rattle.expand.proofs.RootPaths.{room_keys}
 
 -- THE DEFINITION'S STEP, by whether the node is a root and what remains
@@ -45,23 +46,23 @@ held_state opened made rest = record { opened = opened; made = made; rest = rest
 
 module _ (d : Sheet) (work : List ℕ) (made latest : ℕ) (bound : ℕ) (b : Bool) (opened : Nodes) (rest : List (List ℕ)) where
   -- the node is no root
-  pub no_root : b ≡ false → Held d work made latest (held_state opened made rest) → Grew d work bound (Made made latest) (step_at d bound b opened made rest)
-  no_root e H = subst (λ (x : Bool). Grew d work bound (Made made latest) (step_at d bound x opened made rest)) (sym e) (held_state opened made rest, refl, H)
+  pub no_root : b ≡ false → Held d work made latest (held_state opened made rest) → Grew d work bound (grown made latest) (step_at d bound b opened made rest)
+  no_root e H = subst (λ (x : Bool). Grew d work bound (grown made latest) (step_at d bound x opened made rest)) (sym e) (held_state opened made rest, refl, H)
 
   -- it is one, and no assignment remains
-  pub none_remain : b ≡ true → rest ≡ [] → Held d work made latest (held_state opened made rest) → Grew d work bound (Made made latest) (step_at d bound b opened made rest)
+  pub none_remain : b ≡ true → rest ≡ [] → Held d work made latest (held_state opened made rest) → Grew d work bound (grown made latest) (step_at d bound b opened made rest)
   none_remain e q H =
-      subst (λ (x : Bool). Grew d work bound (Made made latest) (step_at d bound x opened made rest)) (sym e)
-      (subst (λ (l : List (List ℕ)). Grew d work bound (Made made latest) (step_at d bound true opened made l)) (sym q)
+      subst (λ (x : Bool). Grew d work bound (grown made latest) (step_at d bound x opened made rest)) (sym e)
+      (subst (λ (l : List (List ℕ)). Grew d work bound (grown made latest) (step_at d bound true opened made l)) (sym q)
       (held_state opened made [], refl, subst (λ (l : List (List ℕ)). Held d work made latest (held_state opened made l)) q H))
 
   -- one remains, and all nodes are made
-  pub none_more : (a : List ℕ) (others : List (List ℕ)) → b ≡ true → rest ≡ a ∷ others → made ≡ d.limit → Grew d work bound Spent (step_at d bound b opened made rest)
+  pub none_more : (a : List ℕ) (others : List (List ℕ)) → b ≡ true → rest ≡ a ∷ others → made ≡ d.limit → Grew d work bound None (step_at d bound b opened made rest)
   none_more a others e q full = rw (e, q, le-ltb made d.limit (omega arith)) refl
 
   -- one remains, and its root is made
   pub one_more : (a : List ℕ) (others : List (List ℕ)) → b ≡ true → rest ≡ a ∷ others → made < d.limit
-      → Held d work (made + 1) (made + 1) (added (root_of (problem d) a ∷ []) (held_state opened made others)) → Grew d work bound (Made (made + 1) (made + 1)) (step_at d bound b opened made rest)
+      → Held d work (made + 1) (made + 1) (added (root_of (problem d) a ∷ []) (held_state opened made others)) → Grew d work bound (grown (made + 1) (made + 1)) (step_at d bound b opened made rest)
   one_more a others e q less H = (added (root_of (problem d) a ∷ []) (held_state opened made others), rw (e, q, lt-ltb made d.limit less) refl, H)
 
 -- what is read of the record

@@ -1,5 +1,5 @@
 -- What the workspace holds of the search's state, and what making nodes comes to. Assumes nothing.
-use Rattle.std.specs.Prelude.{ℕ, ◌+◌, ◌<◌, ◌≤◌, ◌≡◌, List, length, None}
+use Rattle.std.specs.Prelude.{ℕ, ◌+◌, ◌<◌, ◌≤◌, ◌≡◌, List, length, Option, None, Some}
 use Rattle.deck.specs.Sheet.{Sheet, read, cause}
 use Rattle.deck.specs.Assignments.{table_of}
 use Rattle.deck.specs.Search.{Node, State, Turn, done, more, spent}
@@ -16,8 +16,7 @@ use Rattle.roots.specs.Tournament.{SlotsHold}
 use Rattle.optimal.specs.Nodes.{IsNode}
 use Rattle.optimal.specs.Deck.{rules}
 use Rattle.scratch.specs.Bounded.{Bounded}
-use Rattle.expand.specs.declared.Grown.{Grown}
-use Rattle.expand.specs.declared.Grown.TheVariants.{Made, Spent}
+use Rattle.expand.specs.declared.Made.{Made}
 
 -- an accepted sheet, its mask, the working copy of its table, a workspace with room, and the lower bounds of its tasks
 pub record Given (s mask table work bounds : List ℕ) : Type 0 where
@@ -60,10 +59,14 @@ pub record Same (d : Sheet) (before after : List ℕ) (made : ℕ) : Type 0 wher
   pub nodes : (k : ℕ) → k < made → node_at d after k ≡ node_at d before k
   pub keys : (k : ℕ) → k < made → key_at d.limit after k ≡ key_at d.limit before k
 
+-- that a step makes so many nodes, the latest root's link being this
+abbrev pub grown : ℕ → ℕ → Option Made
+grown made latest = Some (record { nodes = made; latest = latest })
+
 -- what a step comes to is the turn t: the state is held that the definition has then; or the search is spent
-abbrev pub Grew : Sheet → List ℕ → ℕ → Grown → Turn (List ℕ) Constraint → Type 0
-Grew d work bound (Made made latest) t = (st : State (List ℕ) Constraint) × (t ≡ more st) × Held d work made latest st
-Grew d work bound Spent t = t ≡ done (spent d.limit bound)
+abbrev pub Grew : Sheet → List ℕ → ℕ → Option Made → Turn (List ℕ) Constraint → Type 0
+Grew d work bound (Some m) t = (st : State (List ℕ) Constraint) × (t ≡ more st) × Held d work m.nodes m.latest st
+Grew d work bound None t = t ≡ done (spent d.limit bound)
 
 -- node n is one of the search: its paths are the least under its constraints
 abbrev pub NodeAt : Sheet → List ℕ → ℕ → Type 0

@@ -2,14 +2,14 @@
 #![tactic(auto)]
 
 ghost use Rattle.std.specs.Prelude.{◌≡◌, List, [], ◌∷◌, ℕ, suc, ◌+◌, ◌*◌, ◌<◌, ◌≤◌, length, take};
-ghost use Rattle.deck.specs.Lists.{each, select};
-ghost use Rattle.deck.specs.Sheet.{read, count_of};
+ghost use Rattle.deck.specs.Lists.{select};
+ghost use Rattle.deck.specs.Sheet.{read, count_of, carrier};
 ghost use Rattle.deck.specs.Search.{State, root_of, rest_after};
 ghost use Rattle.deck.specs.Planner.{problem, bound_by};
 ghost use Rattle.deck.specs.Calls.{path_found, path_written};
 ghost use Rattle.deck.specs.declared.Constraint.{Constraint};
 ghost use Rattle.meaning.specs.Making.{added, make_root, make_child, make_each};
-ghost use Rattle.records.specs.Record.{words_of, Small};
+ghost use Rattle.records.specs.Record.{HasRecord, Small};
 ghost use Rattle.nodes.specs.Nodes.{node_at, constraints_at, binds};
 ghost use Rattle.meaning.specs.Constraints.{InRange};
 ghost use Rattle.nodes.specs.Stored.{Linked};
@@ -17,21 +17,15 @@ ghost use Rattle.expand.specs.Children.{Branch, child_task, child_path};
 ghost use Rattle.scratch.specs.Front.{Front};
 ghost use Rattle.expand.specs.Held.{Given, Held, Holding, Begun, Same, Grew, NodeAt, Nodes};
 
-use deck::Carrier;
-use nodes::Child;
-use roots::Choice;
+use deck::{Carrier, Constraint};
+use nodes::ConstraintList;
+use records::Record;
 
-// How many nodes are made after a step, and the link to the latest root; or a node was to be made and none is left.
-#[derive(Clone, Copy)]
-pub enum Grown {
-    Made { made: usize, latest: usize },
-    Spent,
-}
-
-fn wide(x: u16) -> usize
-    ensures { (result ≡ x) × (result < 65536) }
-{
-    x as usize
+// How many nodes are made, and the number of the latest root + 1.
+#[derive(Clone, Copy, Debug, PartialEq, Eq)]
+pub struct Made {
+    pub nodes: usize,
+    pub latest: usize,
 }
 
 // THE ROOT
@@ -54,8 +48,8 @@ fn root_path(
 {
     let w = sheet::width(s);
     let last = sheet::horizon(s);
-    let j = records::task_of(work, n, i);
-    let bound = wide(tables::entry(t, i, j));
+    let j = Record::at(work, n).task(i);
+    let bound = usize::from(tables::entry(t, i, j));
     let mut path = [0u16; 256];
     let none = [0u16; 1];
     let Some(finish) = scratch::least(
@@ -97,76 +91,75 @@ pub fn complete_root(
     nodes::open_root(work, sheet::limit(s), made);
 }
 
-// Where node n is a root, makes the root of the next assignment, where one remains.
+// Where node n is a root, makes the root of the next assignment, where one remains. None if no node is left for it.
 fn next_root(
     s: &[u8],
     mask: &[u8; 1156],
     t: &[u16; 144],
     work: &mut [u32],
     spare: &mut [u32; 8192],
-    made: usize,
-    latest: usize,
+    made: Made,
     n: usize,
     bounds: &[u8],
-) -> Grown
-    requires { Given s.now mask.now t.now work.old bounds.now × (n < made) × Holding (read s.now) work.old made latest }
-    ensures grew { (opened : Nodes) (rest : List (List ℕ)) (bound : ℕ) → Held (read s.now) work.old made latest (record { opened = opened; made = made; rest = rest }) → Grew (read s.now) work.new bound result (make_root (problem (read s.now)) (read s.now).limit bound (node_at (read s.now) work.old n).root rest (record { opened = opened; made = made; rest = rest_after (problem (read s.now)) (node_at (read s.now) work.old n).root rest })) }
-    ensures same { Same (read s.now) work.old work.new made }
+) -> Option<Made>
+    requires { Given s.now mask.now t.now work.old bounds.now × (n < made.nodes) × Holding (read s.now) work.old made.nodes made.latest }
+    ensures grew { (opened : Nodes) (rest : List (List ℕ)) (bound : ℕ) → Held (read s.now) work.old made.nodes made.latest (record { opened = opened; made = made.nodes; rest = rest }) → Grew (read s.now) work.new bound result (make_root (problem (read s.now)) (read s.now).limit bound (node_at (read s.now) work.old n).root rest (record { opened = opened; made = made.nodes; rest = rest_after (problem (read s.now)) (node_at (read s.now) work.old n).root rest })) }
+    ensures same { Same (read s.now) work.old work.new made.nodes }
 {
-    if !records::is_root(work, n) {
-        return Grown::Made { made, latest };
+    if !Record::at(work, n).is_root() {
+        return Some(made);
     }
     let m = sheet::count(s);
-    let Choice::Slot { n: from, j } = roots::next_slot(work, m, latest) else {
-        return Grown::Made { made, latest };
+    let Some(chosen) = roots::next_slot(work, m, made.latest) else {
+        return Some(made);
     };
-    if made == sheet::limit(s) {
-        return Grown::Spent;
+    if made.nodes == sheet::limit(s) {
+        return None;
     }
-    roots::next_root(work, m, t, latest, made, from, j);
-    complete_root(s, mask, t, work, spare, made, bounds);
-    Grown::Made {
-        made: made + 1,
-        latest: made + 1,
-    }
+    roots::next_root(work, m, t, made.latest, made.nodes, chosen);
+    complete_root(s, mask, t, work, spare, made.nodes, bounds);
+    Some(Made {
+        nodes: made.nodes + 1,
+        latest: made.nodes + 1,
+    })
 }
 
 // CHILDREN
 
-// Puts the constraints of a child of node n into the list: how many there are.
-fn constraints(work: &[u32], n: usize, child: Child, list: &mut [u16]) -> usize
-    requires { (512 * n + 512 ≤ length work.now) × (n < 4096) × (length list.old ≡ 20480) × Linked work.now n × Small child.constraint }
-    ensures { (result ≤ n + 1) × (take (5 * result) list.new ≡ each words_of (select (binds child.carrier) (child.constraint ∷ constraints_at work.now n))) }
+// Takes the constraints of the child of node n by c that bind its carrier into the list.
+fn constraints(work: &[u32], n: usize, c: Constraint, list: &mut ConstraintList)
+    requires { HasRecord work.now n × (n < 4096) × Linked work.now n × Small c }
+    ensures { list.new ≡ select (binds (carrier (bound_by c))) (c ∷ constraints_at work.now n) }
 {
-    let i = child.carrier;
-    let c = child.constraint;
-    let first = nodes::append(list, 0, i, c);
-    nodes::gather(work, n, i, list, first)
+    let i = nodes::bound_by(c);
+    list.clear();
+    nodes::append(list, i, c);
+    nodes::gather(work, n, i, list);
 }
 
-// The least path of the carrier that the child's constraint binds, under that constraint and those of node n, over the first words
-// of `out`.
+// The least path of the carrier that the constraint c binds, under c and the constraints of node n, over the first words of `out`.
 fn child_path(
     s: &[u8],
     mask: &[u8; 1156],
     work: &mut [u32],
     spare: &mut [u32; 8192],
-    list: &mut [u16],
+    list: &mut ConstraintList,
     n: usize,
-    child: Child,
+    c: Constraint,
     out: &mut [u16],
     bounds: &[u8],
 ) -> Option<usize>
-    requires by_index { (made : ℕ) × (latest : ℕ) × Branch s.now mask.now work.old bounds.now made latest n child.carrier child.constraint }
-    requires list_len { (length list.old ≡ 20480) × (suc (read s.now).horizon ≤ length out.old) }
-    ensures answer { result ≡ path_found (read s.now) (child_task (read s.now) work.old n child.constraint) (child_path (read s.now) work.old n child.constraint) }
-    ensures written { out.new ≡ path_written (child_path (read s.now) work.old n child.constraint) out.old }
+    requires by_index { (made : ℕ) × (latest : ℕ) × Branch s.now mask.now work.old bounds.now made latest n (carrier (bound_by c)) c }
+    requires room { suc (read s.now).horizon ≤ length out.old }
+    ensures answer { result ≡ path_found (read s.now) (child_task (read s.now) work.old n c) (child_path (read s.now) work.old n c) }
+    ensures written { out.new ≡ path_written (child_path (read s.now) work.old n c) out.old }
     ensures front { Front (read s.now).limit work.old work.new }
 {
-    let i = child.carrier;
-    let size = 5 * constraints(work, n, child, list);
-    let j = records::task_of(work, n, i);
-    let bound = records::finish_of(work, n, i);
+    constraints(work, n, c, list);
+    let i = nodes::bound_by(c);
+    let parent = Record::at(work, n);
+    let j = parent.task(i);
+    let bound = parent.finish(i);
     scratch::least(
         s,
         i,
@@ -176,86 +169,75 @@ fn child_path(
         work,
         spare,
         out,
-        &list[..size],
+        list.words(),
         bounds,
     )
 }
 
-// Makes the child of node n by one more constraint, where its carrier has a path.
+// Makes the child of node n by one more constraint, where its carrier has a path. None if no node is left for it.
 fn make_child(
     s: &[u8],
     mask: &[u8; 1156],
     work: &mut [u32],
     spare: &mut [u32; 8192],
-    list: &mut [u16],
-    made: usize,
-    latest: usize,
+    list: &mut ConstraintList,
+    made: Made,
     n: usize,
-    child: Child,
+    c: Constraint,
     bounds: &[u8],
-) -> Grown
-    requires { Branch s.now mask.now work.old bounds.now made latest n child.carrier child.constraint × (length list.old ≡ 20480) }
-    ensures grew { (st : State (List ℕ) Constraint) (bound : ℕ) → Held (read s.now) work.old made latest st → Grew (read s.now) work.new bound result (make_child (problem (read s.now)) (read s.now).limit bound (node_at (read s.now) work.old n) child.constraint st) }
-    ensures same { Same (read s.now) work.old work.new made }
+) -> Option<Made>
+    requires { Branch s.now mask.now work.old bounds.now made.nodes made.latest n (carrier (bound_by c)) c }
+    ensures grew { (st : State (List ℕ) Constraint) (bound : ℕ) → Held (read s.now) work.old made.nodes made.latest st → Grew (read s.now) work.new bound result (make_child (problem (read s.now)) (read s.now).limit bound (node_at (read s.now) work.old n) c st) }
+    ensures same { Same (read s.now) work.old work.new made.nodes }
 {
     let w = sheet::width(s);
     let last = sheet::horizon(s);
     let limit = sheet::limit(s);
     let mut path = [0u16; 256];
-    let Some(finish) = child_path(
-        s, mask, work, spare, list, n, child, &mut path, bounds,
-    ) else {
-        return Grown::Made { made, latest }; // A child without a path is not made.
+    let Some(finish) = child_path(s, mask, work, spare, list, n, c, &mut path, bounds) else {
+        return Some(made); // A child without a path is not made.
     };
-    if made == limit {
-        return Grown::Spent;
+    if made.nodes == limit {
+        return None;
     }
     nodes::make_child(
         work,
         limit,
-        made,
+        made.nodes,
         n,
-        child,
+        c,
         finish,
         &path[..last + 1],
         w,
         last,
     );
-    Grown::Made {
-        made: made + 1,
-        latest: latest,
-    }
+    Some(Made {
+        nodes: made.nodes + 1,
+        latest: made.latest,
+    })
 }
 
-// Makes the nodes of the expansion of node n: the next root, the first child, the second child.
+// Makes the nodes of the expansion of node n: the next root, the first child, the second child. None if a node was to be made and none
+// is left.
 pub fn expand(
     s: &[u8],
     mask: &[u8; 1156],
     t: &[u16; 144],
     work: &mut [u32],
     spare: &mut [u32; 8192],
-    list: &mut [u16],
-    made: usize,
-    latest: usize,
+    list: &mut ConstraintList,
+    made: Made,
     n: usize,
-    first: Child,
-    second: Child,
+    first: Constraint,
+    second: Constraint,
     bounds: &[u8],
-) -> Grown
-    requires given { Given s.now mask.now t.now work.old bounds.now × (n < made) × (length list.old ≡ 20480) × Holding (read s.now) work.old made latest }
-    requires node_at { NodeAt (read s.now) work.old n × (bound_by first.constraint ≡ first.carrier.0) × InRange (read s.now) first.constraint × (bound_by second.constraint ≡ second.carrier.0) × InRange (read s.now) second.constraint }
-    ensures grew { (opened : Nodes) (rest : List (List ℕ)) (bound : ℕ) → Held (read s.now) work.old made latest (record { opened = opened; made = made; rest = rest }) → Grew (read s.now) work.new bound result (make_each (problem (read s.now)) (read s.now).limit bound (node_at (read s.now) work.old n) (first.constraint, second.constraint) rest (record { opened = opened; made = made; rest = rest_after (problem (read s.now)) (node_at (read s.now) work.old n).root rest })) }
-    ensures same { Same (read s.now) work.old work.new made }
+) -> Option<Made>
+    requires given { Given s.now mask.now t.now work.old bounds.now × (n < made.nodes) × Holding (read s.now) work.old made.nodes made.latest }
+    requires node_at { NodeAt (read s.now) work.old n × InRange (read s.now) first × InRange (read s.now) second }
+    ensures grew { (opened : Nodes) (rest : List (List ℕ)) (bound : ℕ) → Held (read s.now) work.old made.nodes made.latest (record { opened = opened; made = made.nodes; rest = rest }) → Grew (read s.now) work.new bound result (make_each (problem (read s.now)) (read s.now).limit bound (node_at (read s.now) work.old n) (first, second) rest (record { opened = opened; made = made.nodes; rest = rest_after (problem (read s.now)) (node_at (read s.now) work.old n).root rest })) }
+    ensures same { Same (read s.now) work.old work.new made.nodes }
 {
-    let Grown::Made { made: k, latest: l } = next_root(
-        s, mask, t, work, spare, made, latest, n, bounds,
-    ) else {
-        return Grown::Spent;
-    };
-    let Grown::Made { made: k, latest: l } = make_child(
-        s, mask, work, spare, list, k, l, n, first, bounds,
-    ) else {
-        return Grown::Spent;
-    };
-    make_child(s, mask, work, spare, list, k, l, n, second, bounds)
+    let rooted = next_root(s, mask, t, work, spare, made, n, bounds)?;
+    let once = make_child(s, mask, work, spare, list, rooted, n, first, bounds)?;
+    make_child(s, mask, work, spare, list, once, n, second, bounds)
 }
