@@ -12,7 +12,7 @@ use deck::{Assignment, Cause, Collision, SearchAnswer};
 const NO_TASKS: [u8; 12] = [255; 12];
 
 // The number of a cause.
-fn number(cause: Cause) -> u32
+pub fn number(cause: Cause) -> u32
     ensures { result ≡ number cause }
 {
     u32::from(u8::from(cause))

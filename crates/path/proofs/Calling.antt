@@ -6,7 +6,7 @@ use mathlib.Core.Bool.{◌&&◌}
 use mathlib.Core.List.{List}
 use Rattle.deck.specs.declared.cause.Cause.TheVariants.{BadNumber, BadRecords}
 use Rattle.deck.specs.Causes.{unless}
-use Rattle.std.specs.Prelude.{Option, None, Some}
+use Rattle.std.specs.Prelude.{Option, None, Some, Result, Ok, Err}
 use native.Mathlib.Omega.{arith}
 use lib.ListN.{length, drop}
 use lib.Seq.{take_at}
@@ -18,8 +18,7 @@ use Rattle.deck.specs.Numbers.{path_numbers}
 use Rattle.deck.specs.declared.Carrier.{Carrier}
 use Rattle.deck.specs.declared.Task.{Task}
 use Rattle.deck.specs.declared.Constraint.{Constraint}
-use Rattle.deck.specs.declared.PathAnswer.{PathAnswer}
-use Rattle.deck.specs.declared.PathAnswer.TheVariants.{Refused}
+use Rattle.deck.specs.declared.cause.Cause.{Cause}
 use Rattle.meaning.proofs.Accepted.{first_none, passes_last, accepted_start}
 use Rattle.meaning.proofs.Dark.{with_carriers, workspace_with}
 use Rattle.meaning.proofs.LeastPath.{LeastMeant, least_path_meant}
@@ -46,16 +45,16 @@ module _ (s : List ℕ) (i : Carrier) (j : Task) (work out : ℕ) (rs : List ℕ
       let c2 = first_none (unless (ltb i.0 (count_of s) && ltb j.0 (count_of s)) BadNumber) c1.1 in
       let c3 = first_none (unless (good_records (read s) rs) BadRecords) c2.1 in
       let c4 = first_none (workspace_cause (read s) work) c3.1 in
-      let b = passes_last (ltb i.0 (count_of s) && ltb j.0 (count_of s)) 7 c2.0 in
+      let b = passes_last (ltb i.0 (count_of s) && ltb j.0 (count_of s)) _ c2.0 in
       let l = ltb→lt i.0 (count_of s) (and_left (ltb i.0 (count_of s)) (ltb j.0 (count_of s)) b) in
-      let Some : 0 < count_of s = omega arith in
+      let carriers : 0 < count_of s = omega arith in
       record {
-        accepted = with_carriers s c1.0 Some;
+        accepted = with_carriers s c1.0 carriers;
         carrier_in = l;
         task_in = ltb→lt j.0 (count_of s) (and_right (ltb i.0 (count_of s)) (ltb j.0 (count_of s)) b);
-        records = passes_last (good_records (read s) rs) 8 c3.0;
-        room = rw (← workspace_with (read s) Some) (leb→le (workspace_of (read s)) work (passes_last (leb (workspace_of (read s)) work) 9 c4.0));
-        long = leb→le (suc (horizon_of s)) out (passes_last (leb (suc (horizon_of s)) out) 10 c4.1);
+        records = passes_last (good_records (read s) rs) _ c3.0;
+        room = rw (← workspace_with (read s) carriers) (leb→le (workspace_of (read s)) work (passes_last (leb (workspace_of (read s)) work) _ c4.0));
+        long = leb→le (suc (horizon_of s)) out (passes_last (leb (suc (horizon_of s)) out) _ c4.1);
       }
 
   pub ready_of : (mask : List ℕ) → MaskOf (read s) mask → Ready s i j mask rs
@@ -67,7 +66,7 @@ module _ (s : List ℕ) (i : Carrier) (j : Task) (work out : ℕ) (rs : List ℕ
   room_of mask m = enough_room s i j mask rs (ready_of mask m) work no_cause.room
 
 module _ (s : List ℕ) (i : Carrier) (j : Task) (work out rs : List ℕ) where
-  abbrev c : ℕ
+  abbrev c : Option Cause
   c = path_cause s i j (length work) (length out) rs
 
   abbrev cs : List Constraint
@@ -78,32 +77,31 @@ module _ (s : List ℕ) (i : Carrier) (j : Task) (work out rs : List ℕ) where
   unfolding path_answer_for path_output_for path_found path_written
   meant = by_cause c refl
     where
-      found : c ≡ 0 → (o : Option (List ℕ)) → LeastMeant (read s) i j cs o → Meant s i j work out rs (path_found (read s) j o) (path_written o out)
+      found : c ≡ None → (o : Option (List ℕ)) → LeastMeant (read s) i j cs o → Meant s i j work out rs (Ok (path_found (read s) j o)) (path_written o out)
       found z None l = (z, l)
       found z (Some p) l = (z, rw (take_at p (drop (length p) out) (suc (horizon_of s)) l.under.path.long) l)
 
-      by_cause : (n : ℕ) → n ≡ c → Meant s i j work out rs (path_answer_for n (read s) i j rs) (path_output_for n (read s) i j rs out)
-      by_cause zero e =
+      by_cause : (n : Option Cause) → n ≡ c → Meant s i j work out rs (path_answer_for n (read s) i j rs) (path_output_for n (read s) i j rs out)
+      by_cause None e =
           let ok = no_cause s i j (length work) (length out) rs (sym e) in
           found (sym e) (least_path (read s) i j cs) (least_path_meant (read s) i j cs (accepted_start s ok.accepted i.0 ok.carrier_in))
-      by_cause (suc n) e = (e, λ z. omega arith)
+      by_cause (Some n) e = sym e
 
   -- what the call ensures of its answer and of the words afterwards
-  abbrev pub Ensured : PathAnswer → (work' out' : List ℕ) → Type 0
+  abbrev pub Ensured : Result (Option ℕ) Cause → (work' out' : List ℕ) → Type 0
   Ensured answer work' out' = PathCall s i j work out rs (path_numbers answer) work' out' × Meant s i j work out rs answer out'
 
-  ensured : (answer : PathAnswer) (work' out' : List ℕ) → answer ≡ path_answer_for c (read s) i j rs → out' ≡ path_output_for c (read s) i j rs out
-      → (c ≢ 0 → work' ≡ work) → Ensured answer work' out'
+  ensured : (answer : Result (Option ℕ) Cause) (work' out' : List ℕ) → answer ≡ path_answer_for c (read s) i j rs → out' ≡ path_output_for c (read s) i j rs out
+      → (c ≢ None → work' ≡ work) → Ensured answer work' out'
   ensured answer work' out' a w k = (record { answered = ap path_numbers a; written = w; refused_work = k }, rw (a, w) meant)
 
   -- a refused call
-  pub call_refused : (n : ℕ) → n ≡ c → n ≢ 0 → Ensured (Refused n) work out
+  pub call_refused : (d : Cause) → c ≡ Some d → Ensured (Err d) work out
   unfolding path_answer_for path_output_for
-  call_refused zero e n = absurd (n refl)
-  call_refused (suc n) e k = ensured (Refused (suc n)) work out (rw (← e) refl) (rw (← e) refl) (λ _. refl)
+  call_refused d e = ensured (Err d) work out (rw e refl) (rw e refl) (λ _. refl)
 
   -- an accepted call
-  pub call_answered : c ≡ 0 → (answer : PathAnswer) (work' out' : List ℕ)
-      → (answer ≡ path_found (read s) j (least_path (read s) i j cs)) × (out' ≡ path_written (least_path (read s) i j cs) out) → Ensured answer work' out'
+  pub call_answered : c ≡ None → (answer : Option ℕ) (work' out' : List ℕ)
+      → (answer ≡ path_found (read s) j (least_path (read s) i j cs)) × (out' ≡ path_written (least_path (read s) i j cs) out) → Ensured (Ok answer) work' out'
   unfolding path_answer_for path_output_for
-  call_answered ok answer work' out' h = ensured answer work' out' (rw ok h.0) (rw ok h.1) (λ n. absurd (n ok))
+  call_answered ok answer work' out' h = ensured (Ok answer) work' out' (rw (ok, h.0) refl) (rw ok h.1) (λ n. absurd (n ok))

@@ -5,7 +5,7 @@ ghost use Rattle.deck.specs.Calls.{PathCall};
 ghost use Rattle.deck.specs.Numbers.{path_numbers};
 ghost use Rattle.path.specs.Meant.{Meant};
 
-use deck::{Carrier, PathAnswer, Task};
+use deck::{Carrier, Cause, Task};
 
 // One carrier's least path under a list of records of five words: kind, carrier, u, v, t. A refused call writes nothing.
 pub fn least_path(
@@ -15,15 +15,12 @@ pub fn least_path(
     work: &mut [u32],
     out: &mut [u16],
     records: &[u16],
-) -> PathAnswer
+) -> Result<Option<usize>, Cause>
     ensures call { PathCall s.now i j work.old out.old records.now (path_numbers result) work.new out.new }
     ensures meant { Meant s.now i j work.old out.old records.now result out.new }
 {
-    let c = path_causes::refusal(s, i, j, work.len(), out.len(), records);
-    if c != 0 {
-        return PathAnswer::Refused(c);
-    }
+    path_causes::check(s, i, j, work.len(), out.len(), records)?;
     let mut mask = [0u8; 1156];
     mask::fill(s, &mut mask);
-    by_passes::least(s, i, j, &mask, 0, work, out, records)
+    Ok(by_passes::least(s, i, j, &mask, 0, work, out, records))
 }

@@ -1,12 +1,15 @@
 -- What the exported calls leave in the words that are lent to them, by the definitions of the calls and of their numbers.
 -- Assumes nothing.
 use Rattle.deck.specs.declared.Stretch.{Stretch}
-use Rattle.std.specs.Prelude.{ℕ, zero, suc, ◌≡◌, ◌≢◌, List, [], ◌∷◌, length, ℤ, None}
+use Rattle.std.specs.Prelude.{ℕ, ◌≡◌, ◌≢◌, List, [], ◌∷◌, length, ℤ, Option, None}
 use Rattle.deck.specs.Sheet.{Sheet, read}
-use Rattle.deck.specs.Calls.{workspace_of, path_cause, path_answer_for, PathCall, assignment_cause, least_for, assignment_kind, AssignmentCall, overwrite, search_answer, SearchCall}
+use Rattle.deck.specs.Calls.{workspace_of, path_cause, path_answer_for, PathCall, assignment_cause, assignment_answer_for, AssignmentCall, overwrite, search_answer, SearchCall}
 use Rattle.path.specs.Meant.{Meant as PathMeant}
 use Rattle.assignment.specs.Meant.{Meant as AssignmentMeant}
 use Rattle.in_order.specs.Listed.{lists_of, room_for, listed_for}
+use Rattle.deck.specs.Causes.{accepted_else}
+use Rattle.deck.specs.Numbers.{cause_number}
+use Rattle.deck.specs.declared.cause.Cause.{Cause}
 use Rattle.deck.specs.declared.Carrier.{Carrier}
 use Rattle.deck.specs.declared.Task.{Task}
 use Rattle.optimal.specs.Demand.{RightCall}
@@ -14,9 +17,8 @@ use Rattle.board_lines.specs.Board.{board_numbers}
 use Rattle.board.specs.Call.{board_lines, BoardRight}
 
 -- the words of workspace that an accepted sheet asks for, by its cause; 0 for any other
-unfoldable pub workspace_wanted : ℕ → Sheet → ℕ
-workspace_wanted zero d = workspace_of d
-workspace_wanted (suc c) d = 0
+unfoldable pub workspace_wanted : Option Cause → Sheet → ℕ
+workspace_wanted c d = accepted_else c (workspace_of d) 0
 
 abbrev pub stretch_numbers : Stretch → List ℕ
 stretch_numbers r = r.offset ∷ r.size ∷ []
@@ -29,11 +31,11 @@ pub record PathExport (s : List ℕ) (i : Carrier) (j : Task) (work out rs numbe
 -- the least assignment
 pub record AssignmentExport (m : ℕ) (table tasks : List ℕ) (rows columns : List ℤ) (numbers : List ℕ) : Type 0 where
   pub call : AssignmentCall m table numbers tasks rows columns
-  pub meant : AssignmentMeant m table (assignment_kind (assignment_cause m table) m table (least_for (assignment_cause m table) m table)) tasks
+  pub meant : AssignmentMeant m table (assignment_answer_for (assignment_cause m table) m table) tasks
 
 -- the assignments in order: the lent words and the numbers afterwards
 pub record InOrderExport (m : ℕ) (table work lists work' lists' numbers : List ℕ) : Type 0 where
-  pub numbered : numbers ≡ assignment_cause m table ∷ length (listed_for (assignment_cause m table) (room_for (length work) (length lists)) m table) ∷ []
+  pub numbered : numbers ≡ cause_number (assignment_cause m table) ∷ length (listed_for (assignment_cause m table) (room_for (length work) (length lists)) m table) ∷ []
   pub listed : lists' ≡ overwrite (lists_of (listed_for (assignment_cause m table) (room_for (length work) (length lists)) m table)) lists
   pub unwritten : assignment_cause m table ≢ None → work' ≡ work
 

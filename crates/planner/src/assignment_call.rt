@@ -16,12 +16,9 @@ pub extern "C" fn planner_least_assignment(
     ensures { AssignmentExport m table.now tasks.new rows.new columns.new numbers.new }
 {
     let answer = assignment::least_assignment(m, table);
-    let kind = answer.kind;
-    let list = answer.tasks;
-    let row_prices = answer.rows;
-    let column_prices = answer.columns;
-    *numbers = assignment_numbers(kind);
-    *tasks = list;
-    *rows = row_prices;
-    *columns = column_prices;
+    *numbers = assignment_numbers(answer);
+    (*tasks, *rows, *columns) = match answer {
+        Ok(Some(found)) => (found.tasks, found.rows, found.columns),
+        Ok(None) | Err(_) => ([255; 12], [0; 12], [0; 12]),
+    };
 }

@@ -17,8 +17,6 @@ pub extern "C" fn planner_gate_board(
     ensures { BoardExport s.now work.old out.old numbers.new lines.new work.new out.new }
 {
     let board = board::gate_board(s, work, out);
-    let answer = board.answer;
-    let written = board.lines;
-    *numbers = search_numbers(answer);
-    *lines = line_numbers(written);
+    *numbers = search_numbers(board.answer);
+    *lines = line_numbers(board.lines);
 }

@@ -1,9 +1,9 @@
 // The plan check.
 ghost use Rattle.std.specs.Prelude.{◌≡◌};
 ghost use Rattle.deck.specs.Calls.{check_call};
-ghost use Rattle.deck.specs.Numbers.{check_numbers};
+ghost use Rattle.deck.specs.Numbers.{found_numbers};
 
-use numbers::check_numbers;
+use numbers::found_numbers;
 
 // The numbers: cause, 1 for a plan, its flowtime.
 #[unsafe(no_mangle)]
@@ -13,8 +13,8 @@ pub extern "C" fn planner_check_plan(
     paths: &[u16],
     numbers: &mut [u32; 3],
 )
-    ensures { numbers.new ≡ check_numbers (check_call s.now tasks.now paths.now) }
+    ensures { numbers.new ≡ found_numbers (check_call s.now tasks.now paths.now) }
 {
     let answer = plan_check::check_plan(s, *tasks, paths);
-    *numbers = check_numbers(answer);
+    *numbers = found_numbers(answer);
 }

@@ -1,7 +1,7 @@
 // The assignments in order.
 ghost use Rattle.planner.specs.Exports.{InOrderExport};
 
-use numbers::{narrow, wide};
+use numbers::number;
 
 // The numbers: cause, how many assignments are listed.
 #[unsafe(no_mangle)]
@@ -14,7 +14,8 @@ pub extern "C" fn planner_assignments_in_order(
 )
     ensures { InOrderExport m table.now work.old lists.old work.new lists.new numbers.new }
 {
-    let answer = in_order::in_order(m, table, work, lists);
-    let count = answer.count;
-    *numbers = [wide(answer.cause), narrow(count)];
+    *numbers = match in_order::in_order(m, table, work, lists) {
+        Ok(count) => [0, count as u32],
+        Err(cause) => [number(cause), 0],
+    };
 }

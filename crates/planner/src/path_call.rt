@@ -3,7 +3,7 @@ ghost use Rattle.deck.specs.Sheet.{carrier, task};
 ghost use Rattle.planner.specs.Exports.{PathExport};
 
 use deck::{Carrier, Task};
-use numbers::path_numbers;
+use numbers::found_numbers;
 
 // The numbers: cause, 1 if there is a path, its finish. The path is written to the first H + 1 words of `out`, and only where there is one.
 #[unsafe(no_mangle)]
@@ -19,5 +19,5 @@ pub extern "C" fn planner_least_path(
     ensures { PathExport s.now (carrier i) (task j) work.old out.old records.now numbers.new work.new out.new }
 {
     let answer = path::least_path(s, Carrier(i), Task(j), work, out, records);
-    *numbers = path_numbers(answer);
+    *numbers = found_numbers(answer);
 }

@@ -2,16 +2,20 @@
 ghost use Rattle.std.specs.Prelude.{◌≡◌};
 ghost use Rattle.deck.specs.Sheet.{read, sheet_cause, task};
 ghost use Rattle.deck.specs.Calls.{goals_call};
+ghost use Rattle.deck.specs.Numbers.{cause_number};
 ghost use Rattle.planner.specs.Exports.{workspace_wanted, stretch_numbers};
 
-use numbers::wide;
+use numbers::number;
 
 // The first cause that lies in the sheet itself, 1 to 7, and 0 for an accepted sheet. A sheet of no bytes, the dark house, is one.
 #[unsafe(no_mangle)]
 pub extern "C" fn planner_cause(s: &[u8]) -> u32
-    ensures { result ≡ sheet_cause s.now }
+    ensures { result ≡ cause_number (sheet_cause s.now) }
 {
-    wide(sheet::cause(s))
+    match sheet::check(s) {
+        Ok(()) => 0,
+        Err(cause) => number(cause),
+    }
 }
 
 // How many words of 32 bits of workspace an accepted sheet asks for, 0 for any other. A sheet of no bytes asks for none: whether a sheet
@@ -20,10 +24,9 @@ pub extern "C" fn planner_cause(s: &[u8]) -> u32
 pub extern "C" fn planner_workspace(s: &[u8]) -> usize
     ensures { result ≡ workspace_wanted (sheet_cause s.now) (read s.now) }
 {
-    if sheet::cause(s) == 0 {
-        sheet::workspace(s)
-    } else {
-        0
+    match sheet::check(s) {
+        Ok(()) => sheet::workspace(s),
+        Err(_) => 0,
     }
 }
 
@@ -32,14 +35,11 @@ pub extern "C" fn planner_workspace(s: &[u8]) -> usize
 pub extern "C" fn planner_task_goals(s: &[u8], j: usize, numbers: &mut [usize; 2])
     ensures { numbers.new ≡ stretch_numbers (goals_call s.now (task j)) }
 {
-    if sheet::cause(s) != 0 {
-        *numbers = [0, 0];
-        return;
-    }
-    if sheet::count(s) <= j {
-        *numbers = [0, 0];
-        return;
-    }
-    let k = sheet_parts::TASKS + j;
-    *numbers = [sheet_parts::pair_offset(s, k), sheet_parts::pair_size(s, k)];
+    *numbers = match sheet::check(s) {
+        Ok(()) if j < sheet::count(s) => {
+            let goals = sheet_parts::pair_at(s, sheet_parts::TASKS + j);
+            [goals.offset, goals.size]
+        }
+        _ => [0, 0],
+    };
 }
