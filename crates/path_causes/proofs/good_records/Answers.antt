@@ -1,19 +1,14 @@
--- `path_causes::good_records` meets its contract, by its cases. Assumes nothing.
-use native.Mathlib.Omega.{arith}
-use mathlib.Core.Path.{sym, ◌∙◌}
-use borrow.Author.Tests.{not-true}
+-- All records pass the test. Assumes nothing.
+use Rattle.std.proofs.Common.{rules, arith, refl, ◌/◌, ◌%◌, length, eq-eqb, le-leb}
+use Rattle.std.proofs.lemmas.Iterator.{YieldsList-from_range}
 use Rattle.deck.specs.Sheet.{read}
-use Rattle.path_causes.proofs.Causes.{not_fives, too_many, one_bad, none_bad}
+use Rattle.deck.specs.Calls.{good_record, good_records}
+use Rattle.meaning.proofs.Iterators.{all_below}
 use Rattle.path_causes.proofs.good_records.Goals as goal
 
-pub returns-then-records-ne0 : goal.returns-then-records-ne0
-returns-then-records-ne0 c = not_fives (read c.args.s.now) c.args.records.now c.if-records-ne0.true
-
-pub returns-then-n-gt4096 : goal.returns-then-n-gt4096
-returns-then-n-gt4096 c = too_many (read c.args.s.now) c.args.records.now c.if-records-ne0.false c.if-n-gt4096.true
-
-pub returns-then-not-good_record : goal.returns-then-not-good_record
-returns-then-not-good_record c = one_bad (read c.args.s.now) c.args.records.now c.if-records-ne0.false c.loop-k.invariant.1 c.loop-k.k c.loop-k-test.true (sym c.good_record.ensures ∙ not-true _ c.if-not-good_record.true-raw)
-
 pub returns : goal.returns
-returns c = none_bad (read c.args.s.now) c.args.records.now c.if-records-ne0.false c.loop-k.invariant.1 (λ k h. c.loop-k.invariant.2 k (omega arith))
+unfolding good_records
+returns c =
+    let all = all_below (length c.args.records.now / 5) (good_record (read c.args.sheet.bytes.now) c.args.records.now) _ _ _ c.all.ensures.ran
+    (YieldsList-from_range 0 _ _ refl (omega arith)) (λ x b q k. search rules) in
+    rw (eq-eqb (length c.args.records.now % 5) 0 c.if-records-ne0.false, le-leb (length c.args.records.now / 5) 4096 c.if-n-gt4096.false) all
