@@ -1,6 +1,5 @@
 -- Document 01, "Assignments in order". An assignment is the list of the carriers' task numbers, carrier 0 first. Assumes nothing.
-use Rattle.std.specs.Prelude.{ℕ, zero, suc, ◌+◌, ◌*◌, ◌<◌, ◌≡◌, ◌≢◌, not, List, [], ◌∷◌, map, get_or, ℤ, pos, ◌+ℤ◌, ◌≤ℤ◌, eqb}
-use Rattle.std.specs.Prelude.{Option, None, Some}
+use Rattle.std.specs.Prelude.{ℕ, zero, suc, ◌+◌, ◌*◌, ◌<◌, ◌≡◌, ◌≢◌, not, List, [], ◌∷◌, map, get_or, ℤ, pos, ◌+ℤ◌, ◌≤ℤ◌, eqb, Option, None, Some}
 use Rattle.deck.specs.Lists.{◌at◌, below, all, select, each, in_order, head_of, sum}
 use Rattle.deck.specs.Sheet.{Sheet, carrier, task}
 use Rattle.deck.specs.Paths.{least_path, finish_of}

@@ -1,6 +1,5 @@
 -- Document 01, "Path and plan" as far as it goes about two carriers: collisions and their order. Assumes nothing.
-use Rattle.std.specs.Prelude.{ℕ, suc, Bool, ◌&&◌, not, cond, List, [], ◌++◌, map, ltb, eqb}
-use Rattle.std.specs.Prelude.{Option}
+use Rattle.std.specs.Prelude.{ℕ, suc, Bool, ◌&&◌, not, cond, List, [], ◌++◌, map, ltb, eqb, Option}
 use Rattle.deck.specs.Lists.{◌at◌, path_of, below, select, each, head_of}
 use Rattle.deck.specs.Sheet.{carrier}
 use Rattle.deck.specs.declared.Collision.{Collision}

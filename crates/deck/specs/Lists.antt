@@ -1,6 +1,5 @@
 -- Lists and tests on them: what the other definitions are made of. Assumes nothing.
-use Rattle.std.specs.Prelude.{ℕ, zero, suc, ◌+◌, Bool, true, false, cond, ◌&&◌, ◌||◌, not, List, [], ◌∷◌, ◌++◌, length, get_or, take, drop, eqb, leb}
-use Rattle.std.specs.Prelude.{Option, None, Some}
+use Rattle.std.specs.Prelude.{ℕ, zero, suc, ◌+◌, Bool, true, false, cond, ◌&&◌, ◌||◌, not, List, [], ◌∷◌, ◌++◌, length, get_or, take, drop, eqb, leb, Option, None, Some}
 
 infixl 80 ◌at◌
 -- the number at an index, 0 past the end: of a path, the place at a time; of a task list, the task of a carrier

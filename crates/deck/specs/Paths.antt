@@ -1,7 +1,6 @@
 -- Document 01, "Path and plan" as far as one carrier goes, and "One carrier's least path"; document 02, "One-way lanes". Assumes
 -- nothing.
-use Rattle.std.specs.Prelude.{ℕ, zero, suc, ◌/◌, ◌%◌, Bool, true, ◌&&◌, ◌||◌, not, cond, List, [], ◌∷◌, map, leb, eqb}
-use Rattle.std.specs.Prelude.{Option, None, Some}
+use Rattle.std.specs.Prelude.{ℕ, zero, suc, ◌/◌, ◌%◌, Bool, true, ◌&&◌, ◌||◌, not, cond, List, [], ◌∷◌, map, leb, eqb, Option, None, Some}
 use Rattle.deck.specs.Lists.{◌at◌, below, all, select, each, take_least, is_nil}
 use Rattle.deck.specs.Sheet.{Sheet, area, grid_byte, free, start_of, goals_of, last_goal}
 use Rattle.deck.specs.declared.Carrier.{Carrier}

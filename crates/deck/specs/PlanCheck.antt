@@ -1,6 +1,5 @@
 -- The plan check of document 01, "When the planner declines" and "Path and plan". Assumes nothing.
-use Rattle.std.specs.Prelude.{ℕ, suc, Bool, true, false, ◌&&◌, cond, List, [], ◌∷◌, length, take, drop, ltb, eqb}
-use Rattle.std.specs.Prelude.{Option, None, Some}
+use Rattle.std.specs.Prelude.{ℕ, suc, Bool, true, false, ◌&&◌, cond, List, [], ◌∷◌, length, take, drop, ltb, eqb, Option, None, Some}
 use Rattle.deck.specs.Lists.{◌at◌, all, distinct, is_nil}
 use Rattle.deck.specs.Sheet.{Sheet, carrier, task, start_of}
 use Rattle.deck.specs.Paths.{may_step, serves}

@@ -1,6 +1,5 @@
 -- The deck as an instance of the search. Assumes nothing.
-use Rattle.std.specs.Prelude.{ℕ, cond, List, [], eqb}
-use Rattle.std.specs.Prelude.{Option, None, Some}
+use Rattle.std.specs.Prelude.{ℕ, cond, List, [], eqb, Option, None, Some}
 use Rattle.deck.specs.Sheet.{Sheet, carrier, task}
 use Rattle.deck.specs.Paths.{least_path, finish_of}
 use Rattle.deck.specs.Collisions.{first_collision}

@@ -1,7 +1,6 @@
 -- Document 01, "The search", over abstract parts: paths and constraints are any two types, and the selection rule and the
 -- node limit are parameters. Assumes nothing.
-use Rattle.std.specs.Prelude.{ℕ, zero, suc, ◌+◌, Bool, true, false, List, [], ◌∷◌, ◌++◌, map, length, get_or, set, leb}
-use Rattle.std.specs.Prelude.{Option, None, Some}
+use Rattle.std.specs.Prelude.{ℕ, zero, suc, ◌+◌, Bool, true, false, List, [], ◌∷◌, ◌++◌, map, length, get_or, set, leb, Option, None, Some}
 use Rattle.deck.specs.Lists.{◌at◌, below, sum, take_least}
 
 -- What the search is given

@@ -1,10 +1,5 @@
 -- A layer is 0 at a blocked place. Assumes nothing.
-use Prim.Native.Nat.{ℕ, zero, suc, max}
-use mathlib.Core.Path.{◌≡◌, refl, sym, subst}
-use mathlib.Core.Bool.{Bool, true, false, cond, ◌&&◌}
-use mathlib.Core.List.{List, [], ◌∷◌, reverse}
-use lib.Dec.{T, eqb}
-use borrow.Author.Tests.{eqb-true}
+use Rattle.std.proofs.Common.{ℕ, zero, suc, max, ◌≡◌, refl, sym, subst, Bool, true, false, cond, ◌&&◌, List, [], ◌∷◌, reverse, T, eqb, eqb-true}
 use Rattle.deck.specs.Sheet.{Sheet, free, start_of, goals_of, last_goal}
 use Rattle.deck.specs.Paths.{may_step}
 use Rattle.deck.specs.declared.Carrier.{Carrier}

@@ -1,7 +1,5 @@
 -- Two tests that pass together. Assumes nothing.
-use mathlib.Core.Path.{◌≡◌, refl}
-use mathlib.Core.Bool.{Bool, true, false, ◌&&◌}
-use lib.Dec.{T}
+use Rattle.std.proofs.Common.{◌≡◌, refl, Bool, true, false, ◌&&◌, T}
 
 pub and_left : (a b : Bool) → T (a && b) → T a
 and_left true b t = tt

@@ -1,14 +1,7 @@
 -- Where staying on the last goal raises no label: the finish of a walk is the least time from which it stays there. Assumes nothing.
-use Prim.Native.Nat.{ℕ, zero, suc, ◌+◌, ◌-◌, ◌≤◌, ◌<◌, zero-le}
-use mathlib.Core.Path.{◌≡◌, refl, sym, ap, ◌∙◌, subst}
-use mathlib.Core.Logic.{◌⊎◌, inl, inr, ⊎_elim}
-use mathlib.Core.Bool.{Bool, true, false, cond}
-use mathlib.Core.List.{List, [], ◌∷◌}
-use Rattle.std.specs.Prelude.{Option, None, Some}
-use native.Mathlib.Nat.{eq-or-lt_of_le}
-use native.Mathlib.Omega.{arith}
-use lib.ListN.{length, replicate, length-replicate}
-use lib.Dec.{T, eqb, eqb→eq, eqb_refl}
+use Rattle.std.proofs.Common.{ℕ, zero, suc, ◌+◌, ◌-◌, ◌≤◌, ◌<◌, zero-le, ◌≡◌, refl, sym, ap, ◌∙◌, subst, ◌⊎◌, inl, inr, ⊎_elim, Bool, true, false, cond, List, [], ◌∷◌, Option, None, Some, eq-or-lt_of_le, arith, length, replicate, T, eqb, eqb→eq}
+use lib.ListN.{length-replicate}
+use lib.Dec.{eqb_refl}
 use Rattle.deck.specs.Lists.{all}
 use Rattle.deck.specs.Paths.{finish}
 use Rattle.meaning.specs.Meaning.{Before}

@@ -1,9 +1,6 @@
 -- Along the trace each step is allowed and keeps the time. Assumes nothing.
-use Prim.Native.Nat.{ℕ, suc, ◌+◌, ◌-◌, ◌≤◌}
-use mathlib.Core.Path.{◌≡◌, sym, subst}
-use mathlib.Core.List.{List, Memᴰ as Mem}
-use native.Mathlib.Omega.{arith}
-use lib.Dec.{T, ltb→lt}
+use Rattle.std.proofs.Common.{ℕ, suc, ◌+◌, ◌-◌, ◌≤◌, ◌≡◌, sym, subst, List, arith, T, ltb→lt}
+use mathlib.Core.List.{Memᴰ as Mem}
 use Rattle.deck.specs.Sheet.{Sheet, free, start_of, last_goal}
 use Rattle.deck.specs.declared.Carrier.{Carrier}
 use Rattle.deck.specs.declared.Task.{Task}

@@ -1,11 +1,5 @@
 -- Labels: a larger one stays larger. Assumes nothing.
-use Prim.Native.Nat.{ℕ, zero, suc, ◌+◌, ◌-◌, ◌≤◌, ◌<◌, zero-le}
-use mathlib.Core.Path.{◌≡◌, refl, ap}
-use mathlib.Core.Bool.{Bool, true, false, cond}
-use mathlib.Core.List.{List, [], ◌∷◌}
-use native.Mathlib.Omega.{arith}
-use lib.ListN.{length, drop}
-use lib.Dec.{eqb}
+use Rattle.std.proofs.Common.{ℕ, zero, suc, ◌+◌, ◌-◌, ◌≤◌, ◌<◌, zero-le, ◌≡◌, refl, ap, Bool, true, false, cond, List, [], ◌∷◌, arith, length, drop, eqb}
 use Rattle.deck.specs.Paths.{visit, left}
 use Rattle.kernel.specs.Goals.{up, fall, down, lowered}
 

@@ -1,14 +1,6 @@
 -- The two passes with the parts of a sheet answer the least path of the definitions. Assumes nothing.
-use Prim.Native.Nat.{ℕ, zero, suc, ◌+◌, ◌≤◌, ◌<◌, zero-le}
-use mathlib.Core.Path.{◌≡◌, refl, sym, ap, ◌∙◌, subst}
-use mathlib.Core.Logic.{◌⊎◌, ⊎_elim, ◌≢◌}
-use mathlib.Core.Bool.{◌&&◌, not}
-use mathlib.Core.List.{List, [], ◌∷◌, Memᴰ as Mem}
-use Rattle.std.specs.Prelude.{Option, None, Some}
-use native.Mathlib.Nat.{not-suc-le-zero, le_refl}
-use native.Mathlib.Omega.{arith}
-use lib.ListN.{length, drop, drop_of_length-le}
-use lib.Dec.{T}
+use Rattle.std.proofs.Common.{ℕ, zero, suc, ◌+◌, ◌≤◌, ◌<◌, zero-le, ◌≡◌, refl, sym, ap, ◌∙◌, subst, ◌⊎◌, ⊎_elim, ◌≢◌, ◌&&◌, not, List, [], ◌∷◌, Option, None, Some, not-suc-le-zero, le_refl, arith, length, drop, drop_of_length-le, T}
+use mathlib.Core.List.{Memᴰ as Mem}
 use Rattle.deck.specs.Sheet.{Sheet, free, start_of, goals_of, last_goal}
 use Rattle.deck.specs.Paths.{left, least_path}
 use Rattle.deck.specs.declared.Carrier.{Carrier}

@@ -1,11 +1,7 @@
 -- The two passes mean what they should. Assumes nothing.
-use Prim.Native.Nat.{ℕ, zero, suc, ◌+◌, ◌-◌, ◌≤◌, ◌<◌}
-use mathlib.Core.Path.{◌≡◌, refl}
-use mathlib.Core.Bool.{Bool, true, false, cond, ◌&&◌}
-use mathlib.Core.List.{List, [], ◌∷◌, Memᴰ as Mem}
-use native.Mathlib.Nat.{not-suc-le-zero}
-use native.Mathlib.Omega.{arith}
-use lib.Dec.{T, eqb, eqb→eq, eqb_refl}
+use Rattle.std.proofs.Common.{ℕ, zero, suc, ◌+◌, ◌-◌, ◌≤◌, ◌<◌, ◌≡◌, refl, Bool, true, false, cond, ◌&&◌, List, [], ◌∷◌, not-suc-le-zero, arith, T, eqb, eqb→eq}
+use mathlib.Core.List.{Memᴰ as Mem}
+use lib.Dec.{eqb_refl}
 use Rattle.kernel.proofs.Both.{and_left}
 use Rattle.meaning.specs.Sorted.{Sorted}
 use Rattle.kernel.specs.Layers.{Parts, pass, lift, front, back}

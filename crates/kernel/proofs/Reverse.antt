@@ -1,14 +1,8 @@
 -- Backward as forward: the labels counted backward rise as labels do, with the goals reversed. Assumes nothing.
-use Prim.Native.Nat.{ℕ, zero, suc, ◌-◌, ◌≤◌, zero-le}
-use mathlib.Core.Path.{◌≡◌, refl, sym, ap, ◌∙◌, subst}
-use mathlib.Core.Logic.{⊎_elim}
-use mathlib.Core.Bool.{Bool, true, false, cond, ◌&&◌}
-use mathlib.Core.List.{List, [], ◌∷◌, ◌++◌, reverse, reverse-cons}
-use native.Mathlib.Nat.{le_refl}
-use native.Mathlib.Omega.{arith}
-use lib.ListN.{length, length-reverse}
-use lib.Dec.{eqb, eqb-suc-suc, eqb-zero-suc}
-use borrow.Author.Tests.{eq-eqb, ne_eqb}
+use Rattle.std.proofs.Common.{ℕ, zero, suc, ◌-◌, ◌≤◌, zero-le, ◌≡◌, refl, sym, ap, ◌∙◌, subst, ⊎_elim, Bool, true, false, cond, ◌&&◌, List, [], ◌∷◌, ◌++◌, reverse, le_refl, arith, length, eqb, eq-eqb, ne_eqb}
+use mathlib.Core.List.{reverse-cons}
+use lib.ListN.{length-reverse}
+use lib.Dec.{eqb-suc-suc, eqb-zero-suc}
 use Rattle.kernel.specs.Layers.{lift}
 use Rattle.kernel.specs.Goals.{up, fall, down, lowered}
 use Rattle.kernel.proofs.Choice.{lt_or_ge}

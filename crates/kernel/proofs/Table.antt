@@ -1,12 +1,8 @@
 -- Without constraints the backward layers rest on neither the time nor the carrier, so that one pass for each task gives its
 -- column of the table. Assumes nothing.
-use Prim.Native.Nat.{ℕ, zero, suc, ◌+◌, ◌-◌, ◌≤◌, ◌<◌}
-use mathlib.Core.Path.{◌≡◌, refl, ap}
-use mathlib.Core.Bool.{true, ◌&&◌}
+use Rattle.std.proofs.Common.{ℕ, zero, suc, ◌+◌, ◌-◌, ◌≤◌, ◌<◌, ◌≡◌, refl, ap, true, ◌&&◌, [], reverse, arith, T}
 use mathlib.Core.List.Memᴰ.{not-nil}
-use mathlib.Core.List.{[], reverse, Memᴰ as Mem}
-use native.Mathlib.Omega.{arith}
-use lib.Dec.{T}
+use mathlib.Core.List.{Memᴰ as Mem}
 use Rattle.deck.specs.Sheet.{Sheet, free, start_of, goals_of, last_goal}
 use Rattle.deck.specs.Paths.{least_path}
 use Rattle.deck.specs.Assignments.{barred, entry_of}

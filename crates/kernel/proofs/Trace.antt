@@ -1,13 +1,5 @@
 -- The trace is the first walk among those that finish first. Assumes nothing.
-use Prim.Native.Nat.{ℕ, zero, suc, ◌+◌, ◌≤◌, ◌<◌}
-use mathlib.Core.Path.{◌≡◌, refl, sym, subst}
-use mathlib.Core.Logic.{◌⊎◌, inl, inr}
-use mathlib.Core.List.{List, [], ◌∷◌}
-use Rattle.std.specs.Prelude.{Option, None, Some}
-use native.Mathlib.Nat.{eq-or-lt_of_le}
-use native.Mathlib.Omega.{arith}
-use lib.ListN.{replicate}
-use lib.Dec.{T, ltb→lt, lt→ltb}
+use Rattle.std.proofs.Common.{ℕ, zero, suc, ◌+◌, ◌≤◌, ◌<◌, ◌≡◌, refl, sym, subst, ◌⊎◌, inl, inr, List, [], ◌∷◌, Option, None, Some, eq-or-lt_of_le, arith, replicate, T, ltb→lt, lt→ltb}
 use Rattle.meaning.specs.Meaning.{Before}
 use Rattle.meaning.proofs.Before.{before_refl}
 use Rattle.kernel.proofs.Both.{and_left, and_right, and_both}

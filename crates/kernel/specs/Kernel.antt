@@ -1,7 +1,6 @@
 -- The two passes as one function on layers: forward from the start with the goals, backward from the last goal with the goals
 -- reversed. Assumes nothing.
-use Rattle.std.specs.Prelude.{ℕ, zero, suc, ◌+◌, ◌≤◌, ◌<◌, ◌≡◌, Bool, cond, ◌&&◌, List, ◌∷◌, reverse, replicate, T, eqb, leb, ltb}
-use Rattle.std.specs.Prelude.{Some}
+use Rattle.std.specs.Prelude.{ℕ, zero, suc, ◌+◌, ◌≤◌, ◌<◌, ◌≡◌, Bool, cond, ◌&&◌, List, ◌∷◌, reverse, replicate, T, eqb, leb, ltb, Some}
 use Rattle.deck.specs.Sheet.{Sheet, free, start_of, goals_of, last_goal}
 use Rattle.deck.specs.Paths.{least_path, finish_of}
 use Rattle.deck.specs.declared.Carrier.{Carrier}

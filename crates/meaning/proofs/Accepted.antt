@@ -1,23 +1,15 @@
 -- What a sheet without causes gives: 1 to 12 carriers, a node limit of at least 1, a horizon of at most 255, each stretch of the
 -- directory inside the sheet, each carrier's start on the grid, and last goals that differ; and what an accepted search was lent.
 -- Assumes nothing.
-use Prim.Native.Nat.{ℕ, zero, suc, ◌+◌, ◌*◌, ◌≤◌, ◌<◌}
-use mathlib.Core.Path.{◌≡◌, refl, sym, ap, ◌∙◌}
-use mathlib.Core.Logic.{◌⊎◌, inl, inr}
-use mathlib.Core.Bool.{Bool, true, false, ◌&&◌, not}
-use mathlib.Core.List.{List, [], ◌∷◌, map}
-use native.Mathlib.Nat.{eq-or-lt_of_le}
-use native.Mathlib.Omega.{arith}
-use lib.Dec.{T, leb, ltb, eqb, leb→le, ltb→lt, eqb→eq}
-use lib.ListN.{length, length-take, length-drop, length-map, get_or-map}
+use Rattle.std.proofs.Common.{ℕ, zero, suc, ◌+◌, ◌*◌, ◌≤◌, ◌<◌, ◌≡◌, refl, sym, ap, ◌∙◌, ◌⊎◌, inl, inr, Bool, true, false, ◌&&◌, not, List, [], ◌∷◌, map, eq-or-lt_of_le, arith, T, leb, ltb, eqb, leb→le, ltb→lt, eqb→eq, length, length-take, length-drop, None, Option, Some, Ok, Err}
+use lib.ListN.{length-map, get_or-map}
 use Rattle.deck.specs.declared.Stretch.{Stretch}
 use Rattle.deck.specs.Causes.{unless, ◌or_else◌, answer_unless}
-use Rattle.std.specs.Prelude.{None}
 use Rattle.deck.specs.Lists.{below, within, all, distinct, last}
 use Rattle.deck.specs.Sheet.{area, grid_byte, carrier, task, start_of, last_goal, byte_at, width_of, height_of, count_of, horizon_of, limit_of, part, pair_at, pairs_for, starts_pair, directory_end, grid_stretch, starts_stretch, task_stretch, words, read, free, chained, goals_size, good_header, good_directory, good_grid, good_starts, good_goals, good_last_goals, cause, sheet_cause}
 use Rattle.deck.specs.Calls.{workspace_of, workspace_cause, plan_words, search_cause}
 use Rattle.meaning.proofs.Tests.{Says, says_eqb, says_leb, says_and}
-use Rattle.std.specs.Prelude.{Option, Some, Ok, Err, ⊤}
+use Rattle.std.specs.Prelude.{⊤}
 use Rattle.std.proofs.lemmas.Result.{MatchResult-at_ok, MatchResult-at_err}
 use Rattle.std.proofs.lemmas.Option.{none-some}
 use Rattle.deck.specs.declared.cause.Cause.{Cause}

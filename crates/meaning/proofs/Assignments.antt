@@ -1,23 +1,16 @@
 -- The assignments in order are exactly the assignments that use no barred entry, strictly rising by sum and then by list of task
 -- numbers; the least is the first of them; each task of an assignment has a carrier; the table has the finish of each least path. Assumes
 -- nothing.
-use Prim.Native.Nat.{ℕ, zero, suc, ◌+◌, ◌≤◌, ◌<◌, zero-le, suc-le-suc}
-use mathlib.Core.Path.{◌≡◌, refl, sym, ap, subst, ◌∙◌}
-use mathlib.Core.Logic.{◌↔◌, ◌≢◌, ◌⊎◌, inl, inr, ⊎_elim}
-use mathlib.Core.Bool.{Bool, true, false, cond, not}
+use Rattle.std.proofs.Common.{ℕ, zero, suc, ◌+◌, ◌≤◌, ◌<◌, zero-le, suc-le-suc, ◌≡◌, refl, sym, ap, subst, ◌∙◌, ◌↔◌, ◌≢◌, ◌⊎◌, inl, inr, ⊎_elim, Bool, true, false, cond, not, List, [], ◌∷◌, map, Option, None, Some, not-suc-le-zero, le_of_suc-le-suc, eq-or-lt_of_le, le_refl, arith, length, get_or, ext_get_or, eqb}
 use mathlib.Core.List.Memᴰ.{cases_cons}
 use mathlib.Core.List.Memᴰ.{eq_of_singleton as only}
 use mathlib.Core.List.Memᴰ.{head as here}
 use mathlib.Core.List.Memᴰ.{not-nil}
 use mathlib.Core.List.Memᴰ.{tail as there}
-use mathlib.Core.List.{List, [], ◌∷◌, map, Memᴰ as Mem}
-use Rattle.std.specs.Prelude.{Option, None, Some}
-use native.Mathlib.Nat.{not-suc-le-zero, le_of_suc-le-suc, suc_inj, eq-or-lt_of_le, le_refl}
+use mathlib.Core.List.{Memᴰ as Mem}
+use native.Mathlib.Nat.{suc_inj}
 use native.Mathlib.Decide.{ℕ_discrete}
-use native.Mathlib.Omega.{arith}
-use lib.ListN.{length, get_or, length-map}
-use lib.Seq.{ext_get_or}
-use lib.Dec.{eqb}
+use lib.ListN.{length-map}
 use borrow.Author.Tests.{eqb-false}
 use Rattle.deck.specs.Lists.{below, all, select, each, sum}
 use Rattle.deck.specs.Sheet.{Sheet, carrier, task}

@@ -1,13 +1,6 @@
 -- The order of lists: each list comes before itself, of any two one comes before the other, and two that come before each other are one.
 -- Assumes nothing.
-use Prim.Native.Nat.{ℕ}
-use mathlib.Core.Path.{◌≡◌, refl, sym, ap₂}
-use mathlib.Core.Logic.{◌⊎◌, inl, inr, ⊎_elim}
-use mathlib.Core.Bool.{Bool, true, false}
-use mathlib.Core.List.{List, [], ◌∷◌}
-use native.Mathlib.Omega.{arith}
-use lib.Dec.{ltb}
-use borrow.Author.Tests.{ltb-true, ltb-false}
+use Rattle.std.proofs.Common.{ℕ, ◌≡◌, refl, sym, ap₂, ◌⊎◌, inl, inr, ⊎_elim, Bool, true, false, List, [], ◌∷◌, arith, ltb, ltb-true, ltb-false}
 use Rattle.meaning.specs.Meaning.{Before}
 
 pub before_refl : (p : List ℕ) → Before p p

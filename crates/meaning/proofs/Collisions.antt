@@ -1,17 +1,11 @@
 -- The collisions that the definitions list are exactly those of the meaning, in its order. So the first of the list is the first
 -- collision, and the list is empty exactly if no two paths collide. Assumes nothing.
-use Prim.Native.Nat.{ℕ, suc, ◌≤◌, ◌<◌}
-use mathlib.Core.Path.{◌≡◌, refl, sym, ap, subst, ◌∙◌}
-use mathlib.Core.Logic.{◌↔◌, ◌⊎◌, inl, inr, ⊎_elim, ◌≢◌}
-use mathlib.Core.Bool.{Bool, true, false, cond}
+use Rattle.std.proofs.Common.{ℕ, suc, ◌≤◌, ◌<◌, ◌≡◌, refl, sym, ap, subst, ◌∙◌, ◌↔◌, ◌⊎◌, inl, inr, ⊎_elim, ◌≢◌, Bool, true, false, cond, List, [], ◌∷◌, map, Option, None, Some, arith, T, ltb}
 use mathlib.Core.List.Memᴰ.{append_cases as cases_append}
 use mathlib.Core.List.Memᴰ.{append_left as in_left}
 use mathlib.Core.List.Memᴰ.{append_right as in_right}
 use mathlib.Core.List.Memᴰ.{not-nil}
-use mathlib.Core.List.{List, [], ◌∷◌, map, Memᴰ as Mem}
-use Rattle.std.specs.Prelude.{Option, None, Some}
-use native.Mathlib.Omega.{arith}
-use lib.Dec.{T, ltb}
+use mathlib.Core.List.{Memᴰ as Mem}
 use Rattle.deck.specs.Lists.{below, select, head_of}
 use Rattle.deck.specs.Sheet.{carrier}
 use Rattle.deck.specs.Collisions.{place_at, pairs, place_collides, move_collides, place_collision, move_collision, collisions_at, collisions, first_collision}

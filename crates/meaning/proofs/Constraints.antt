@@ -1,5 +1,5 @@
 -- Laws of the constraints of a sheet. Assumes nothing.
-use Prim.Native.Nat.{◌<◌}
+use Rattle.std.proofs.Common.{◌<◌}
 use Rattle.deck.specs.Sheet.{Sheet}
 use Rattle.deck.specs.Planner.{bound_by}
 use Rattle.deck.specs.declared.Constraint.{Constraint}

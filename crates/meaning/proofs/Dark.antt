@@ -1,13 +1,6 @@
 -- Document 02, "A dark house": an accepted sheet has no bytes or none of the causes, what follows of workspace and round, and that the
 -- empty plan is the only plan of a round with no carriers. Assumes nothing.
-use Prim.Native.Nat.{ℕ, ◌≤◌, ◌<◌, zero-le}
-use mathlib.Core.Path.{◌≡◌, refl, sym, ◌∙◌}
-use mathlib.Core.Logic.{◌≢◌, ◌⊎◌, inl, inr, ◌↔◌}
-use mathlib.Core.List.{List, [], ◌∷◌}
-use native.Mathlib.Omega.{arith}
-use lib.ListN.{length}
-use borrow.Author.Tests.{eq-eqb, ne_eqb}
-use Rattle.std.specs.Prelude.{None}
+use Rattle.std.proofs.Common.{ℕ, ◌≤◌, ◌<◌, zero-le, ◌≡◌, refl, sym, ◌∙◌, ◌≢◌, ◌⊎◌, inl, inr, ◌↔◌, List, [], ◌∷◌, arith, length, eq-eqb, ne_eqb, None}
 use Rattle.deck.specs.Sheet.{Sheet, read, count_of, horizon_of, cause, sheet_cause}
 use Rattle.deck.specs.Search.{Answer, plan}
 use Rattle.deck.specs.Planner.{plan_for, or_dark, round_of}

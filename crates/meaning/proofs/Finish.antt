@@ -1,13 +1,5 @@
 -- The computed finish is the least time from which a path rests on its last goal, and there is one such time only. Assumes nothing.
-use Prim.Native.Nat.{ℕ, zero, suc, ◌≤◌, ◌<◌, zero-le}
-use mathlib.Core.Path.{◌≡◌, refl, sym, subst}
-use mathlib.Core.Logic.{◌↔◌}
-use mathlib.Core.Bool.{Bool, true, false, cond}
-use mathlib.Core.List.{List, [], ◌∷◌}
-use native.Mathlib.Nat.{not-suc-le-zero, le_antisymm}
-use native.Mathlib.Omega.{arith}
-use lib.ListN.{length}
-use lib.Dec.{eqb}
+use Rattle.std.proofs.Common.{ℕ, zero, suc, ◌≤◌, ◌<◌, zero-le, ◌≡◌, refl, sym, subst, ◌↔◌, Bool, true, false, cond, List, [], ◌∷◌, not-suc-le-zero, le_antisymm, arith, length, eqb}
 use Rattle.deck.specs.Lists.{all}
 use Rattle.deck.specs.Sheet.{Sheet, last_goal}
 use Rattle.deck.specs.Paths.{finish, finish_of}

@@ -1,10 +1,5 @@
 -- The finishes of a plan are those that are computed, and its flowtime is their sum. Assumes nothing.
-use Prim.Native.Nat.{ℕ, ◌<◌}
-use mathlib.Core.Path.{◌≡◌, refl, sym, ap, ◌∙◌}
-use mathlib.Core.List.{List, map}
-use native.Mathlib.Omega.{arith}
-use lib.ListN.{length}
-use lib.Seq.{ext_get_or}
+use Rattle.std.proofs.Common.{ℕ, ◌<◌, ◌≡◌, refl, sym, ap, ◌∙◌, List, map, arith, length, ext_get_or}
 use Rattle.deck.specs.Lists.{below, sum}
 use Rattle.deck.specs.Sheet.{Sheet, task}
 use Rattle.deck.specs.Paths.{finish_of}

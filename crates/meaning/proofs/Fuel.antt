@@ -1,14 +1,6 @@
 -- The turns of the search always suffice: whichever rule takes one node out of the open ones, limit + 1 turns answer, and more of
 -- them change nothing. So the answer of the deck's search is never the one that stands for no answer. Assumes nothing.
-use Prim.Native.Nat.{ℕ, zero, suc, ◌+◌, ◌-◌, ◌≤◌, ◌<◌}
-use mathlib.Core.Path.{◌≡◌, refl, sym, ap, ◌∙◌}
-use mathlib.Core.Bool.{Bool, true, false}
-use mathlib.Core.List.{List, [], ◌∷◌}
-use Rattle.std.specs.Prelude.{Option, None, Some}
-use native.Mathlib.Omega.{arith}
-use lib.ListN.{length, length-append}
-use lib.Dec.{leb}
-use borrow.Author.Tests.{leb-true}
+use Rattle.std.proofs.Common.{ℕ, zero, suc, ◌+◌, ◌-◌, ◌≤◌, ◌<◌, ◌≡◌, refl, sym, ap, ◌∙◌, Bool, true, false, List, [], ◌∷◌, Option, None, Some, arith, length, length-append, leb, leb-true}
 use Rattle.deck.specs.Lists.{take_least}
 use Rattle.deck.specs.Sheet.{Sheet}
 use Rattle.deck.specs.Search.{Problem, Node, State, Selected, Answer, no_plan, Turn, done, more, root_of, to_make, extend, expand, turn_with, turn, onward, run, search_from, searched, selected, cheapest}

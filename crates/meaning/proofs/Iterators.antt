@@ -1,5 +1,5 @@
 -- What a test of all elements of an iterator comes to, in the definitions' words. Assumes nothing.
-use Rattle.std.proofs.Common.{ℕ, zero, suc, ◌+◌, Bool, true, false, ◌&&◌, List, [], ◌∷◌, length, get_or, Option, ◌≡◌, refl, sym, ap, ◌∙◌, subst, arith}
+use Rattle.std.proofs.Common.{ℕ, zero, suc, ◌+◌, Bool, true, false, ◌&&◌, List, [], ◌∷◌, length, get_or, Option, ◌≡◌, refl, sym, ap, ◌∙◌, subst, arith, add-one, zero-add, add-zero}
 use Rattle.std.specs.List.{list_all, range_with_len, FoldsTo}
 use Rattle.std.specs.Option.{MatchOption}
 use Rattle.std.specs.Fn.{Called}
@@ -7,8 +7,6 @@ use Rattle.std.specs.Iterator.{YieldsThen}
 use Rattle.std.proofs.lemmas.Iterator.{YieldsList}
 use Rattle.std.proofs.lemmas.Iterator.Search.{all_from_yields_List}
 use denote.Param.Members.{Mut}
-use native.Mathlib.Numerals.{add-one}
-use native.Mathlib.Nat.{zero-add, add-zero}
 use Rattle.deck.specs.Lists.{all, below, count_from}
 
 pub all_same : {A : Type 0} (test : A → Bool) (l : List A) → list_all test l ≡ all test l

@@ -1,8 +1,5 @@
 -- Laws of the lists that the definitions are made of: what stands in them, and in what order. Assumes nothing.
-use Prim.Native.Nat.{ℕ, zero, suc, ◌+◌, ◌*◌, ◌≤◌, ◌<◌}
-use mathlib.Core.Path.{◌≡◌, refl, sym, ap, subst, ◌∙◌}
-use mathlib.Core.Logic.{◌↔◌, ◌⊎◌, inl, inr, ⊎_elim}
-use mathlib.Core.Bool.{Bool, true, false, cond}
+use Rattle.std.proofs.Common.{ℕ, zero, suc, ◌+◌, ◌*◌, ◌≤◌, ◌<◌, ◌≡◌, refl, sym, ap, subst, ◌∙◌, ◌↔◌, ◌⊎◌, inl, inr, ⊎_elim, Bool, true, false, cond, List, [], ◌∷◌, ◌++◌, map, append-nil, append_assoc, Option, None, Some, not-suc-le-zero, eq-or-lt_of_le, le_trans, le_refl, le_of_lt, le_of_suc-le-suc, suc-mul, mul-le-mul_right, arith, length, get_or, take, drop, replicate, get_or-append-add, drop-drop, T, leb, leb-true, leb-false}
 use mathlib.Core.List.Memᴰ.{append_cases as cases_append}
 use mathlib.Core.List.Memᴰ.{append_left as in_left}
 use mathlib.Core.List.Memᴰ.{append_right as in_right}
@@ -10,14 +7,8 @@ use mathlib.Core.List.Memᴰ.{cases_cons}
 use mathlib.Core.List.Memᴰ.{head as here}
 use mathlib.Core.List.Memᴰ.{not-nil}
 use mathlib.Core.List.Memᴰ.{tail as there}
-use mathlib.Core.List.{List, [], ◌∷◌, ◌++◌, map, append-nil, append_assoc, Memᴰ as Mem}
-use Rattle.std.specs.Prelude.{Option, None, Some}
-use native.Mathlib.Nat.{not-suc-le-zero, eq-or-lt_of_le, le_trans, le_refl, le_of_lt, le_of_suc-le-suc, suc-mul, mul-le-mul_right}
-use native.Mathlib.Omega.{arith}
-use lib.ListN.{length, length-map, get_or, take, drop, replicate, get_or-append}
-use lib.Seq.{get_or-append-add, drop-drop}
-use lib.Dec.{T, leb}
-use borrow.Author.Tests.{leb-true, leb-false}
+use mathlib.Core.List.{Memᴰ as Mem}
+use lib.ListN.{length-map, get_or-append}
 use Rattle.deck.specs.Lists.{count_from, below, sum, select, each, pieces, take_least, pick_least, head_of}
 use Rattle.meaning.specs.Sorted.{Sorted}
 

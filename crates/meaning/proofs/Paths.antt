@@ -1,15 +1,8 @@
 -- The tests of steps, paths and constraints say what is meant, and the walks that are enumerated and serve a task are the paths.
 -- Assumes nothing.
-use Prim.Native.Nat.{ℕ, zero, suc, ◌/◌, ◌%◌, ◌≤◌, ◌<◌}
-use mathlib.Core.Path.{◌≡◌, refl}
-use mathlib.Core.Logic.{◌↔◌, ⊎_elim}
-use mathlib.Core.Bool.{Bool, true, false, cond, ◌&&◌}
-use mathlib.Core.List.{List, [], ◌∷◌, Memᴰ as Mem}
-use native.Mathlib.Nat.{not-suc-le-zero}
-use native.Mathlib.Omega.{arith}
-use lib.ListN.{length}
-use lib.Dec.{T, eqb}
-use borrow.Author.Tests.{eqb-true, eqb-false}
+use Rattle.std.proofs.Common.{ℕ, zero, suc, ◌/◌, ◌%◌, ◌≤◌, ◌<◌, ◌≡◌, refl, ◌↔◌, ⊎_elim, Bool, true, false, cond, ◌&&◌, List, [], ◌∷◌, not-suc-le-zero, arith, length, T, eqb, eqb-true}
+use mathlib.Core.List.{Memᴰ as Mem}
+use borrow.Author.Tests.{eqb-false}
 use Rattle.deck.specs.Lists.{all}
 use Rattle.deck.specs.Sheet.{Sheet, area, grid_byte, free, start_of, goals_of, last_goal}
 use Rattle.deck.specs.Paths.{one_apart, next_to, may_leave, beside, may_step, walks, finish_of, serves, keeps}

@@ -1,10 +1,7 @@
 -- Tests that compute, and what they say. Assumes nothing.
-use Prim.Native.Nat.{ℕ, ◌≤◌}
-use mathlib.Core.Path.{◌≡◌, refl}
-use mathlib.Core.Logic.{◌↔◌, ◌⊎◌, inl, inr, ⊎_elim}
-use mathlib.Core.Bool.{Bool, true, false, ◌&&◌, ◌||◌, not}
-use mathlib.Core.List.{List, [], ◌∷◌, cons≢nil}
-use lib.Dec.{T, eqb, eqb→eq, eqb_refl, leb, leb→le, le→leb, T_not, not_T}
+use Rattle.std.proofs.Common.{ℕ, ◌≤◌, ◌≡◌, refl, ◌↔◌, ◌⊎◌, inl, inr, ⊎_elim, Bool, true, false, ◌&&◌, ◌||◌, not, List, [], ◌∷◌, T, eqb, eqb→eq, leb, leb→le, le→leb, T_not}
+use mathlib.Core.List.{cons≢nil}
+use lib.Dec.{eqb_refl, not_T}
 use Rattle.deck.specs.Lists.{is_nil}
 
 -- the test b says P. A record, so that antt reads the test off the type: from `T b` it cannot

@@ -1,15 +1,7 @@
 -- A path leaves no goal exactly if there are times at which it visits them in order. Assumes nothing.
-use Prim.Native.Nat.{ℕ, zero, suc, ◌+◌, ◌≤◌, ◌<◌}
-use mathlib.Core.Path.{◌≡◌, refl, ap, ◌∙◌}
-use mathlib.Core.Logic.{◌↔◌, ◌⊎◌, inl, inr}
-use mathlib.Core.Bool.{Bool, true, false, cond}
-use mathlib.Core.List.{List, [], ◌∷◌, cons≢nil}
-use native.Mathlib.Nat.{eq-or-lt_of_le}
-use native.Mathlib.Omega.{arith}
-use lib.ListN.{length, drop, drop_of_length-le}
-use lib.Seq.{drop-cons}
-use lib.Dec.{eqb}
-use borrow.Author.Tests.{eqb-true, eqb-false}
+use Rattle.std.proofs.Common.{ℕ, zero, suc, ◌+◌, ◌≤◌, ◌<◌, ◌≡◌, refl, ap, ◌∙◌, ◌↔◌, ◌⊎◌, inl, inr, Bool, true, false, cond, List, [], ◌∷◌, eq-or-lt_of_le, arith, length, drop, drop_of_length-le, drop-cons, eqb, eqb-true}
+use mathlib.Core.List.{cons≢nil}
+use borrow.Author.Tests.{eqb-false}
 use Rattle.deck.specs.Paths.{left, visit}
 use Rattle.meaning.specs.Meaning.{Visits, ◌at◌}
 

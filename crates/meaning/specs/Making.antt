@@ -1,7 +1,6 @@
 -- The nodes of an expansion made one at a time, as document 01 says it: each only where fewer than N are made. It comes to the one
 -- test that the definition of the search makes of all of them (proofs/Limit). Assumes nothing.
-use Rattle.std.specs.Prelude.{ℕ, ◌+◌, Bool, true, false, List, [], ◌∷◌, ◌++◌, length, ltb}
-use Rattle.std.specs.Prelude.{Option, None, Some}
+use Rattle.std.specs.Prelude.{ℕ, ◌+◌, Bool, true, false, List, [], ◌∷◌, ◌++◌, length, ltb, Option, None, Some}
 use Rattle.deck.specs.Search.{Problem, Node, State, Turn, done, more, spent, task_of, root_of, child_node}
 
 module _ {Path Constraint : Type 0} where

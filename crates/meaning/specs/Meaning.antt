@@ -2,8 +2,8 @@
 -- that compute; and what the search has to answer (demand 3). A reader who believes this file, the sheet's accessors and how lists
 -- are read (`at`, `path_of`, `sum`) need not believe the definitions of paths, collisions, assignments, plan check or search. Assumes
 -- nothing.
-use Rattle.std.specs.Prelude.{ℕ, suc, ◌/◌, ◌%◌, ◌≤◌, ◌<◌, ◌≡◌, ◌≢◌, ◌⊎◌, length}
-use mathlib.Core.List.{List, [], ◌∷◌, Memᴰ as Mem}
+use Rattle.std.specs.Prelude.{ℕ, suc, ◌/◌, ◌%◌, ◌≤◌, ◌<◌, ◌≡◌, ◌≢◌, ◌⊎◌, length, List, [], ◌∷◌}
+use mathlib.Core.List.{Memᴰ as Mem}
 pub use Rattle.deck.specs.Lists.{◌at◌, path_of}
 use Rattle.deck.specs.Lists.{sum}
 use Rattle.deck.specs.Sheet.{Sheet, area, carrier, task, start_of, goals_of, last_goal}

@@ -1,16 +1,11 @@
 -- The deck as an instance of the search: the laws that the parts of its problem keep, where each start is on the grid and the horizon
 -- is below the barred entry. Assumes nothing.
-use Prim.Native.Nat.{ℕ, zero, suc, ◌≤◌, ◌<◌}
-use mathlib.Core.Path.{◌≡◌, refl, sym, ap, subst, ◌∙◌}
-use mathlib.Core.Logic.{◌⊎◌, inl, inr, ⊎_elim, ◌≢◌}
+use Rattle.std.proofs.Common.{ℕ, zero, suc, ◌≤◌, ◌<◌, ◌≡◌, refl, sym, ap, subst, ◌∙◌, ◌⊎◌, inl, inr, ⊎_elim, ◌≢◌, List, [], ◌∷◌, Option, None, Some, le_of_lt, le_of_eq, lt_trans, arith}
 use mathlib.Core.List.Memᴰ.{head as here}
 use mathlib.Core.List.Memᴰ.{not-nil}
 use mathlib.Core.List.Memᴰ.{tail as there}
-use mathlib.Core.List.{List, [], ◌∷◌, Memᴰ as Mem}
-use Rattle.std.specs.Prelude.{Option, None, Some}
-use native.Mathlib.Nat.{le_of_lt, le_of_eq, lt_trans}
+use mathlib.Core.List.{Memᴰ as Mem}
 use native.Mathlib.Decide.{ℕ_discrete}
-use native.Mathlib.Omega.{arith}
 use Rattle.deck.specs.Lists.{below}
 use Rattle.deck.specs.Sheet.{Sheet, area, carrier, task, start_of}
 use Rattle.deck.specs.Paths.{finish_of, least_path}

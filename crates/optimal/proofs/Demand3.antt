@@ -1,9 +1,5 @@
 -- Demand 3: of each accepted sheet, the search's answer is right. Assumes nothing.
-use Prim.Native.Nat.{ℕ, ◌≤◌, ◌<◌}
-use mathlib.Core.Path.{◌≡◌, sym, subst, ◌∙◌}
-use mathlib.Core.List.{List}
-use Rattle.std.specs.Prelude.{Some, None}
-use native.Mathlib.Omega.{arith}
+use Rattle.std.proofs.Common.{ℕ, ◌≤◌, ◌<◌, ◌≡◌, sym, subst, ◌∙◌, List, Some, None, arith}
 use Rattle.deck.specs.Sheet.{Sheet, area, carrier, start_of, read, cause}
 use Rattle.deck.specs.Assignments.{barred}
 use Rattle.deck.specs.Search.{Answer, plan, no_plan, spent, searched, cheapest}

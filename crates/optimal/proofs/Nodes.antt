@@ -1,19 +1,14 @@
 -- The root of a served assignment is a node, and so are the children of a node; its cost is at most the flowtime of each plan that
 -- it covers; and a plan that it covers and that keeps one more constraint is covered by the child with that constraint. Assumes
 -- nothing.
-use Prim.Native.Nat.{ℕ, ◌≤◌, ◌<◌}
-use mathlib.Core.Path.{◌≡◌, refl, ◌∙◌}
-use mathlib.Core.Logic.{◌≢◌, ⊎_elim}
+use Rattle.std.proofs.Common.{ℕ, ◌≤◌, ◌<◌, ◌≡◌, refl, ◌∙◌, ◌≢◌, ⊎_elim, List, [], ◌∷◌, Option, None, Some, le_refl, set, length-set}
 use mathlib.Core.List.Memᴰ.{cases_cons}
 use mathlib.Core.List.Memᴰ.{eq_of_singleton as only}
 use mathlib.Core.List.Memᴰ.{head as here}
 use mathlib.Core.List.Memᴰ.{not-nil}
 use mathlib.Core.List.Memᴰ.{tail as there}
-use mathlib.Core.List.{List, [], ◌∷◌, Memᴰ as Mem}
-use Rattle.std.specs.Prelude.{Option, None, Some}
-use native.Mathlib.Nat.{le_refl}
+use mathlib.Core.List.{Memᴰ as Mem}
 use native.Mathlib.Decide.{ℕ_discrete}
-use lib.ListN.{set, length-set}
 use Rattle.deck.specs.Search.{Problem, Node, task_of, path_at, flowtime, path_or, root_of, child_with, child_node, child}
 use Rattle.meaning.proofs.Lists.{length_below, get_or_below}
 use Rattle.optimal.specs.Plans.{Rules, Legals, IsPlan, Fits, KeepsAll, KeepsOwn, Under, IsLeast, Served, Laws}

@@ -1,7 +1,5 @@
 -- Demand 3 of the exact search over abstract parts: it always answers, and its answer is the best. Assumes nothing.
-use Prim.Native.Nat.{ℕ, ◌≤◌}
-use mathlib.Core.Path.{◌≡◌, sym}
-use Rattle.std.specs.Prelude.{Some}
+use Rattle.std.proofs.Common.{ℕ, ◌≤◌, ◌≡◌, sym, Some}
 use Rattle.deck.specs.Search.{Problem, Answer, plan, no_plan, spent, searched, cheapest}
 use Rattle.optimal.specs.Plans.{Rules, Laws, Right, Best}
 use Rattle.optimal.proofs.Invariant.{searched_right}

@@ -1,14 +1,8 @@
 -- Raising the node limit of the exact search: a plan or none stays the answer, and the bound of a spent search does not fall.
 -- Assumes nothing.
-use Prim.Native.Nat.{ℕ, zero, suc, ◌+◌, ◌≤◌, ◌<◌}
-use mathlib.Core.Path.{◌≡◌, refl}
-use mathlib.Core.Bool.{Bool, true, false}
-use mathlib.Core.List.{List, [], ◌∷◌, ◌++◌, Memᴰ as Mem}
-use Rattle.std.specs.Prelude.{Option, None, Some}
-use native.Mathlib.Nat.{le_refl, le_trans}
-use native.Mathlib.Omega.{arith}
-use lib.Dec.{leb, leb→le, nleb→lt}
-use lib.ListN.{length}
+use Rattle.std.proofs.Common.{ℕ, zero, suc, ◌+◌, ◌≤◌, ◌<◌, ◌≡◌, refl, Bool, true, false, List, [], ◌∷◌, ◌++◌, Option, None, Some, le_refl, le_trans, arith, leb, leb→le, length}
+use mathlib.Core.List.{Memᴰ as Mem}
+use lib.Dec.{nleb→lt}
 use Rattle.deck.specs.Search.{Problem, Node, State, Selected, Answer, plan, no_plan, spent, Turn, to_make, grown, extend, expand, turn_with, onward, run, search_from, searched, cheapest}
 use Rattle.optimal.specs.Plans.{Rules, Splits, Laws}
 use Rattle.optimal.specs.Nodes.{IsNode}

@@ -1,7 +1,5 @@
 -- The rule of the exact search, `cheapest`, keeps `Picked`, and its bound is the cost of the node taken. Assumes nothing.
-use mathlib.Core.Path.{◌≡◌, refl}
-use mathlib.Core.List.{List}
-use Rattle.std.specs.Prelude.{Option, None, Some}
+use Rattle.std.proofs.Common.{◌≡◌, refl, List, Option, None, Some}
 use Rattle.deck.specs.Lists.{take_least}
 use Rattle.deck.specs.Search.{Node, selected, cheapest}
 use Rattle.meaning.proofs.Lists.{Took, took}

@@ -1,14 +1,9 @@
 -- Sums over the numbers below n, and lists in which one element is set. Assumes nothing.
-use Prim.Native.Nat.{ℕ, ◌≤◌, ◌<◌, zero-le}
-use mathlib.Core.Path.{◌≡◌, refl}
-use mathlib.Core.Logic.{◌≢◌}
+use Rattle.std.proofs.Common.{ℕ, ◌≤◌, ◌<◌, zero-le, ◌≡◌, refl, ◌≢◌, List, [], ◌∷◌, map, arith, length, get_or, set, get_or-set_same, get_or-set_other}
 use mathlib.Core.List.Memᴰ.{head as here}
 use mathlib.Core.List.Memᴰ.{tail as there}
-use mathlib.Core.List.{List, [], ◌∷◌, map, Memᴰ as Mem}
+use mathlib.Core.List.{Memᴰ as Mem}
 use native.Mathlib.Decide.{ℕ_discrete}
-use native.Mathlib.Omega.{arith}
-use lib.ListN.{length, get_or, set}
-use lib.Seq.{get_or-set_same, get_or-set_other}
 use Rattle.deck.specs.Lists.{below, sum}
 use Rattle.meaning.proofs.Lists.{mem_below}
 

@@ -1,6 +1,6 @@
 -- The invariant of the search: what holds of its state before each turn, for any selection rule. Assumes nothing.
-use Rattle.std.specs.Prelude.{ℕ, ◌+◌, ◌≤◌, ◌≡◌, ◌⊎◌, true, length}
-use mathlib.Core.List.{List, Memᴰ as Mem}
+use Rattle.std.specs.Prelude.{ℕ, ◌+◌, ◌≤◌, ◌≡◌, ◌⊎◌, true, length, List}
+use mathlib.Core.List.{Memᴰ as Mem}
 use Rattle.deck.specs.Search.{Problem, Node, State, root_of}
 use Rattle.optimal.specs.Plans.{Rules, IsPlan, Served, Rising}
 use Rattle.optimal.specs.Nodes.{IsNode, Covers}

@@ -1,6 +1,5 @@
 -- What a node of the search is, and which plans it stands for. Assumes nothing.
-use Rattle.std.specs.Prelude.{ℕ, ◌<◌, ◌≡◌, List, length}
-use Rattle.std.specs.Prelude.{Some}
+use Rattle.std.specs.Prelude.{ℕ, ◌<◌, ◌≡◌, List, length, Some}
 use Rattle.deck.specs.Search.{Problem, Node, task_of, path_at, flowtime}
 use Rattle.optimal.specs.Plans.{Rules, Fits, KeepsAll, IsLeast}
 

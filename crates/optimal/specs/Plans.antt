@@ -1,8 +1,7 @@
 -- What a plan is where paths and constraints are any two types, what the search may rely on, and what each answer of the search
 -- has to say of the plans. Assumes nothing.
-use Rattle.std.specs.Prelude.{ℕ, ◌≤◌, ◌<◌, ◌≡◌, ◌⊎◌, ◌≢◌, length}
-use mathlib.Core.List.{List, [], ◌∷◌, Memᴰ as Mem}
-use Rattle.std.specs.Prelude.{Option, None, Some}
+use Rattle.std.specs.Prelude.{ℕ, ◌≤◌, ◌<◌, ◌≡◌, ◌⊎◌, ◌≢◌, length, List, [], ◌∷◌, Option, None, Some}
+use mathlib.Core.List.{Memᴰ as Mem}
 use Rattle.deck.specs.Search.{Problem, Answer, plan, no_plan, spent, task_of, path_at, flowtime, root_of}
 
 -- The rules of a round

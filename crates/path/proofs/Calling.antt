@@ -1,16 +1,7 @@
 -- The whole call: what no cause says, and what the call ensures. Assumes nothing.
-use Prim.Native.Nat.{ℕ, suc, ◌≤◌, ◌<◌}
-use mathlib.Core.Path.{◌≡◌, refl, sym, ap}
-use mathlib.Core.Logic.{◌≢◌}
-use mathlib.Core.Bool.{◌&&◌}
-use mathlib.Core.List.{List}
+use Rattle.std.proofs.Common.{ℕ, suc, ◌≤◌, ◌<◌, ◌≡◌, refl, sym, ap, ◌≢◌, ◌&&◌, List, Option, None, Some, Result, Ok, Err, arith, length, drop, take_at, T, leb, ltb, leb→le, ltb→lt}
 use Rattle.deck.specs.declared.cause.Cause.TheVariants.{BadNumber, BadRecords}
 use Rattle.deck.specs.Causes.{unless}
-use Rattle.std.specs.Prelude.{Option, None, Some, Result, Ok, Err}
-use native.Mathlib.Omega.{arith}
-use lib.ListN.{length, drop}
-use lib.Seq.{take_at}
-use lib.Dec.{T, leb, ltb, leb→le, ltb→lt}
 use Rattle.deck.specs.Sheet.{read, count_of, horizon_of, cause, sheet_cause}
 use Rattle.deck.specs.Paths.{least_path}
 use Rattle.deck.specs.Calls.{constraints_of, good_records, workspace_for, workspace_of, workspace_cause, path_found, path_written, path_cause, path_answer_for, path_output_for, PathCall}

@@ -4,7 +4,7 @@ use mathlib.Core.Path.{◌≡◌, refl, sym}
 use mathlib.Core.Logic.{◌≢◌, ⊎_elim}
 use mathlib.Core.Bool.{Bool, true, false}
 use mathlib.Core.List.{List, [], ◌∷◌, map}
-use Rattle.std.specs.Prelude.{Option, None, Some}
+use Rattle.std.specs.Prelude.{Option, None, Some, Result, Ok, Err}
 use native.Mathlib.Decide.{dec_le}
 use native.Mathlib.Nat.{mul-le-mul_right, suc-mul}
 use native.Mathlib.Omega.{arith}
@@ -16,18 +16,15 @@ use Rattle.deck.specs.Paths.{least_path, finish_of}
 use Rattle.deck.specs.Assignments.{least_assignment, sum_of, entries, barred}
 use Rattle.deck.specs.Search.{Node, State, Selected, Turn, done, more, Answer, plan, no_plan, spent, cheapest, to_make, extend, expand, turn_with, turn, onward, run, search_from, searched}
 use Rattle.deck.specs.Planner.{problem, answer_or, plan_for, round_of}
-use Rattle.deck.specs.Calls.{constraints_of, path_cause, path_found, path_answer_for, assignment_cause, least_for, assignment_kind, search_cause, search_found, search_answer_for, search_answer, check_cause, check_found, check_for, check_call}
-use Rattle.deck.specs.PlanCheck.{plan_check}
+use Rattle.deck.specs.Calls.{constraints_of, path_cause, path_found, path_answer_for, assignment_cause, sum_found, assignment_answer_for, search_cause, search_found, search_answer_for, search_answer}
 use Rattle.deck.specs.declared.Constraint.{Constraint}
 use Rattle.deck.specs.declared.Carrier.{Carrier}
 use Rattle.deck.specs.declared.Task.{Task}
 use Rattle.deck.specs.declared.Collision.TheVariants.{Place, Move}
-use Rattle.deck.specs.declared.CollisionAnswer.{CollisionAnswer}
-use Rattle.deck.specs.declared.CollisionAnswer.TheVariants.{Found, NoCollision, Refused}
-use Rattle.deck.specs.declared.SearchKind.{SearchKind}
-use Rattle.deck.specs.declared.SearchKind.TheVariants.{Plan, NoPlan, Spent, Refused as SearchRefused}
-use Rattle.deck.specs.declared.CheckAnswer.{CheckAnswer}
-use Rattle.deck.specs.declared.CheckAnswer.TheVariants.{Yes, No, Refused as CheckRefused}
+use Rattle.deck.specs.declared.Collision.{Collision}
+use Rattle.deck.specs.declared.SearchAnswer.{SearchAnswer}
+use Rattle.deck.specs.declared.SearchAnswer.TheVariants.{Plan, NoPlan, Spent}
+use Rattle.deck.specs.declared.cause.Cause.{Cause}
 use Rattle.meaning.specs.Meaning.{◌at◌}
 use Rattle.meaning.proofs.Lists.{length_below, get_or_below}
 use Rattle.meaning.proofs.LeastPath.{LeastMeant, least_path_meant}
@@ -48,7 +45,7 @@ use Rattle.plan_check.specs.Meant.{PlanFor, Meant as CheckMeant}
 use Rattle.path.proofs.Calling.{NoCause, no_cause}
 use Rattle.assignment.proofs.Calls.{count_high}
 use Rattle.sheet.proofs.Accepted.{area_range, last_goal_on_grid}
-use Rattle.numbers.specs.Small.{word, SmallPath, SmallAssignment, SmallFound, SmallSearch, SmallCheck}
+use Rattle.numbers.specs.Small.{word, SmallNumber, SmallFound, SmallSearch}
 use Rattle.board_lines.specs.Board.{no_line}
 use Rattle.board_lines.specs.Stands.{line_at, BoardStands}
 use Rattle.board_lines.specs.Small.{SmallLine, SmallLines}
@@ -69,9 +66,9 @@ sum_small l n h = omega (arith, sum_most 65535 l h, mul-le-mul_right 65535 n)
 
 -- ONE CARRIER'S LEAST PATH: its finish is at most the horizon
 module _ (s : List ℕ) (i : Carrier) (j : Task) (work out : ℕ) (rs : List ℕ) where
-  path_small_for : (c : ℕ) → c ≡ path_cause s i j work out rs → SmallPath (path_answer_for c (read s) i j rs)
+  path_small_for : (c : Option Cause) → c ≡ path_cause s i j work out rs → SmallNumber (path_answer_for c (read s) i j rs)
   unfolding path_answer_for path_found
-  path_small_for zero e = go (least_path (read s) i j (constraints_of rs)) (least_path_meant (read s) i j (constraints_of rs) start)
+  path_small_for None e = go (least_path (read s) i j (constraints_of rs)) (least_path_meant (read s) i j (constraints_of rs) start)
     where
       ok : NoCause s i j work out rs (sym e)
       ok = no_cause s i j work out rs (sym e)
@@ -79,12 +76,12 @@ module _ (s : List ℕ) (i : Carrier) (j : Task) (work out : ℕ) (rs : List ℕ
       start : start_of (read s) i < area (read s)
       start = accepted_start s ok.accepted i.0 ok.carrier_in
 
-      go : (o : Option (List ℕ)) → LeastMeant (read s) i j (constraints_of rs) o → SmallPath (path_found (read s) j o)
+      go : (o : Option (List ℕ)) → LeastMeant (read s) i j (constraints_of rs) o → SmallNumber (Ok (path_found (read s) j o))
       go None l = tt
       go (Some p) l = omega (arith, l.under.path.finishes.rests.0, accepted_horizon s ok.accepted)
-  path_small_for (suc c) e = omega arith
+  path_small_for (Some c) e = tt
 
-  pub path_small : SmallPath (path_answer_for (path_cause s i j work out rs) (read s) i j rs)
+  pub path_small : SmallNumber (path_answer_for (path_cause s i j work out rs) (read s) i j rs)
   path_small = path_small_for (path_cause s i j work out rs) refl
 
 -- THE LEAST ASSIGNMENT: a sum of at most twelve entries
@@ -105,33 +102,28 @@ module _ (m : ℕ) (table : List ℕ) (words : (k : ℕ) → table at k < 65536)
       let l : i < length a = omega (arith, entries_length m table a) in
       omega (arith, entries_at m table a i l, entry_small table words (i * m + a at i)))
 
-  assignment_small_for : (c : ℕ) → c ≡ assignment_cause m table → SmallAssignment (assignment_kind c m table (least_for c m table))
-  unfolding assignment_kind least_for
-  assignment_small_for zero e = go (least_assignment m table) (least_assignment_lem m table)
+  assignment_small_for : (c : Option Cause) → c ≡ assignment_cause m table → SmallNumber (assignment_answer_for c m table)
+  unfolding assignment_answer_for sum_found
+  assignment_small_for None e = go (least_assignment m table) (least_assignment_lem m table)
     where
-      go : (o : Option (List ℕ)) → Least m table o → SmallAssignment (assignment_kind zero m table o)
+      go : (o : Option (List ℕ)) → Least m table o → SmallNumber (Ok (sum_found m table o))
       go None l = tt
       go (Some a) l = sum_of_small a (omega (arith, few (sym e), l.0.0.as_many))
-  assignment_small_for (suc c) e = omega arith
+  assignment_small_for (Some c) e = tt
 
-  pub assignment_small : SmallAssignment (assignment_kind (assignment_cause m table) m table (least_for (assignment_cause m table) m table))
+  pub assignment_small : SmallNumber (assignment_answer_for (assignment_cause m table) m table)
   assignment_small = assignment_small_for (assignment_cause m table) refl
-
--- a cause
-positive : (n : ℕ) → n ≢ 0 → 0 < n
-positive zero h = absurd (h refl)
-positive (suc n) h = omega arith
 
 -- THE FIRST COLLISION: a time of at most h, carriers below m, and places that are words of the paths
 module _ (m h : ℕ) (ws : List ℕ) (words : (k : ℕ) → ws at k < 65536) (short : h < 256) (low : m < 256) where
   place_small : (i t u : ℕ) → i < m → t ≤ h → get_or (pieces m (suc h) ws) i [] at t ≡ u → u < word
   place_small i t u a b e = omega (arith, e, place_in_lem m (suc h) ws i t a (omega arith), words (i * suc h + t))
 
-  pub collision_small : (r : CollisionAnswer) → CollisionMeant m h ws r → SmallFound r
-  collision_small (Found (Place t i j u)) l =
+  pub collision_small : (r : Result (Option Collision) Cause) → CollisionMeant m h ws r → SmallFound r
+  collision_small (Ok (Some (Place t i j u))) l =
       let c = l.1.collided in
       (omega (arith, c.2.0), omega (arith, c.0, c.1), omega (arith, c.1), place_small i.0 t u (omega (arith, c.0, c.1)) c.2.0 c.2.1)
-  collision_small (Found (Move t i j u v)) l =
+  collision_small (Ok (Some (Move t i j u v))) l =
       let c = l.1.collided in (
         omega (arith, c.2.0),
         omega (arith, c.0, c.1),
@@ -139,8 +131,8 @@ module _ (m h : ℕ) (ws : List ℕ) (words : (k : ℕ) → ws at k < 65536) (sh
         place_small i.0 t u (omega (arith, c.0, c.1)) (omega (arith, c.2.0)) c.2.1,
         place_small i.0 (suc t) v (omega (arith, c.0, c.1)) c.2.0 c.2.2,
       )
-  collision_small NoCollision l = tt
-  collision_small (Refused n) l = positive n l.1
+  collision_small (Ok None) l = tt
+  collision_small (Err n) l = tt
 
 -- THE PLAN CHECK
 module _ (s tasks ws : List ℕ) where
@@ -155,21 +147,10 @@ module _ (s tasks ws : List ℕ) where
           let l : i < count_of s = omega (arith, p.plan.a_finish_each) in
           omega (arith, (p.plan.paths i l).finishes.rests.0, short_horizon s p.accepted)
 
-  -- a refusal has a cause
-  has_cause : (c n : ℕ) → CheckRefused c ≡ check_for n (read s) tasks ws → 0 < c
-  unfolding check_for check_found
-  has_cause c zero e = go (plan_check (read s) tasks (pieces (count_of s) (suc (horizon_of s)) ws)) e
-    where
-      go : (o : Option ℕ) → CheckRefused c ≡ check_found o → 0 < c
-      go None f = let z : ◌≡◌ {A = ℕ} 0 1 = cc in absurd (omega arith)
-      go (Some t) f = let z : ◌≡◌ {A = ℕ} 0 1 = cc in absurd (omega arith)
-  has_cause c (suc n) e = let f : c ≡ suc n = cc in omega arith
-
-  pub check_small : (r : CheckAnswer) → r ≡ check_call s tasks ws → CheckMeant s tasks ws r → SmallCheck r
-  unfolding check_call
-  check_small (Yes f) e l = flow_small f ((l f).0 refl)
-  check_small No e l = tt
-  check_small (CheckRefused c) e l = has_cause c (check_cause s ws) e
+  pub check_small : (r : Result (Option ℕ) Cause) → CheckMeant s tasks ws r → SmallNumber r
+  check_small (Ok (Some f)) l = flow_small f ((l f).0 refl)
+  check_small (Ok None) l = tt
+  check_small (Err c) l = tt
 
 -- THE SEARCH: a node costs a sum of finishes, and no more nodes are made than the limit
 abbrev SmallAnswer : Answer (List ℕ) → Type 0
@@ -266,28 +247,28 @@ module _ (s : List ℕ) (ok : cause s ≡ None) where
 
 round_small : (s : List ℕ) → sheet_cause s ≡ None → SmallAnswer (round_of (read s))
 unfolding round_of
-round_small s ok = round_has SmallAnswer s (plan_for (read s)) ok (λ None. (omega arith, omega arith, omega arith)) (plan_small s)
+round_small s ok = round_has SmallAnswer s (plan_for (read s)) ok (λ none. (omega arith, omega arith, omega arith)) (plan_small s)
 
-found_small : (a : Answer (List ℕ)) → SmallAnswer a → SmallSearch (search_found a)
+found_small : (a : Answer (List ℕ)) → SmallAnswer a → SmallSearch (Ok (search_found a))
 unfolding search_found
 found_small (plan a ps f n b) h = h
-found_small (no_plan n) h = (omega arith, h, omega arith)
-found_small (spent n b) h = (omega arith, h.0, h.1)
+found_small (no_plan n) h = h
+found_small (spent n b) h = h
 
 pub search_small : (s : List ℕ) (work out : ℕ) → SmallSearch (search_answer s work out)
 unfolding search_answer search_answer_for
 search_small s work out = go (search_cause s work out) refl
   where
-    go : (c : ℕ) → search_cause s work out ≡ c → SmallSearch (search_answer_for c (read s))
-    go zero e = found_small (round_of (read s)) (round_small s (search_accepted s work out e).0)
-    go (suc c) e = (omega arith, omega arith, omega arith)
+    go : (c : Option Cause) → search_cause s work out ≡ c → SmallSearch (search_answer_for c (read s))
+    go None e = found_small (round_of (read s)) (round_small s (search_accepted s work out e).0)
+    go (Some c) e = tt
 
 -- THE GATE BOARD: a place of the grid, numbers below m, and a finish of at most the horizon
 no_line_small : SmallLine no_line
 no_line_small = (omega arith, omega arith, omega arith, omega arith)
 
-pub board_small : (s tasks words : List ℕ) (ls : List Line) (out : ℕ) (k : SearchKind) → Written s out k → BoardStands (read s) k tasks words ls → SmallLines ls
-board_small s tasks words ls out Plan w h k = go (dec_le (read s).count k)
+pub board_small : (s words : List ℕ) (ls : List Line) (out : ℕ) (a : Result SearchAnswer Cause) → Written s out a → BoardStands (read s) a words ls → SmallLines ls
+board_small s words ls out (Ok (Plan tasks f n b)) w h k = go (dec_le (read s).count k)
   where
     few : (read s).count ≤ 12
     few = most_carriers s w.0
@@ -303,6 +284,6 @@ board_small s tasks words ls out Plan w h k = go (dec_le (read s).count k)
           omega (arith, c.1, few),
           omega (arith, (h.finishes k l).finishes.rests.0, accepted_horizon s ok),
         )
-board_small s tasks words ls out NoPlan w h k = rw (h k) no_line_small
-board_small s tasks words ls out Spent w h k = rw (h k) no_line_small
-board_small s tasks words ls out (SearchRefused c) w h k = rw (h k) no_line_small
+board_small s words ls out (Ok (NoPlan n)) w h k = rw (h k) no_line_small
+board_small s words ls out (Ok (Spent n b)) w h k = rw (h k) no_line_small
+board_small s words ls out (Err c) w h k = rw (h k) no_line_small

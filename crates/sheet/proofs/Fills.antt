@@ -1,11 +1,6 @@
 -- Laws of an array for the directory's pairs that is filled from the front. Assumes nothing.
-use Prim.Native.Nat.{ℕ, zero, suc, ◌+◌, ◌-◌, ◌<◌}
-use mathlib.Core.Path.{◌≡◌, refl, sym, ◌∙◌, ap}
-use mathlib.Core.List.{List, [], ◌∷◌, ◌++◌, map}
-use native.Mathlib.Nat.{zero-add}
-use native.Mathlib.Numerals.{add-one}
-use native.Mathlib.Omega.{arith}
-use lib.ListN.{length, set, replicate, length-append, length-map}
+use Rattle.std.proofs.Common.{ℕ, zero, suc, ◌+◌, ◌-◌, ◌<◌, ◌≡◌, refl, sym, ◌∙◌, ap, List, [], ◌∷◌, ◌++◌, map, zero-add, add-one, arith, length, set, replicate, length-append}
+use lib.ListN.{length-map}
 use lib.Seq.{set_at, append_snoc}
 use Rattle.deck.specs.Lists.{count_from, below}
 use Rattle.deck.specs.Calls.{nowhere, most_pairs, pair_list}

@@ -1,13 +1,5 @@
 -- Laws of `chained`, a pair at a time: n pairs in all, of which those from k on are left. Assumes nothing.
-use Prim.Native.Nat.{ℕ, suc, ◌+◌, ◌-◌, ◌≤◌, ◌<◌}
-use mathlib.Core.Path.{◌≡◌, refl}
-use mathlib.Core.Bool.{true, false}
-use mathlib.Core.List.{List}
-use native.Mathlib.Numerals.{add-one}
-use native.Mathlib.Omega.{arith}
-use lib.Dec.{eqb}
-use lib.ListN.{length}
-use borrow.Author.Tests.{eq-eqb, ne_eqb}
+use Rattle.std.proofs.Common.{ℕ, suc, ◌+◌, ◌-◌, ◌≤◌, ◌<◌, ◌≡◌, refl, true, false, List, add-one, arith, eqb, length, eq-eqb, ne_eqb}
 use Rattle.deck.specs.Sheet.{pair_at, chained}
 
 module _ (s : List ℕ) (n k o : ℕ) where

@@ -1,6 +1,5 @@
 -- What holds of every byte, and of three tests. Assumes nothing.
-use Rattle.std.proofs.Common.{ℕ, ◌<◌, Bool, true, false, ◌&&◌, ◌≡◌, refl, arith}
-use borrow.Author.Tests.{le-leb}
+use Rattle.std.proofs.Common.{ℕ, ◌<◌, Bool, true, false, ◌&&◌, ◌≡◌, refl, arith, le-leb}
 use Rattle.deck.specs.Lists.{within}
 
 pub all_bytes : (x : ℕ) → x < 256 → within 0 255 x ≡ true

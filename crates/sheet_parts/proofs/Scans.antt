@@ -1,16 +1,7 @@
 -- Laws of the tests on lists, an element at a time: of what is left from the index k on, where k is an element's index, and
 -- where it is past the last. Assumes nothing.
-use Prim.Native.Nat.{ℕ, zero, suc, ◌+◌, ◌≤◌, ◌<◌, max}
-use mathlib.Core.Path.{◌≡◌, refl, ◌∙◌}
-use mathlib.Core.Bool.{Bool, true, false, cond, not}
-use mathlib.Core.List.{List, [], ◌∷◌}
-use native.Mathlib.Nat.{zero-add}
-use native.Mathlib.Numerals.{add-one}
-use native.Mathlib.Omega.{arith}
-use lib.Dec.{eqb, leb}
-use lib.ListN.{length, get_or, drop, drop_of_length-le}
-use lib.Seq.{drop-cons}
-use borrow.Author.Tests.{leb-true, leb-false, eq-eqb, ne_eqb, not-true, not-false}
+use Rattle.std.proofs.Common.{ℕ, zero, suc, ◌+◌, ◌≤◌, ◌<◌, max, ◌≡◌, refl, ◌∙◌, Bool, true, false, cond, not, List, [], ◌∷◌, zero-add, add-one, arith, eqb, leb, length, get_or, drop, drop_of_length-le, drop-cons, leb-true, leb-false, eq-eqb, ne_eqb}
+use borrow.Author.Tests.{not-true, not-false}
 use Rattle.deck.specs.Lists.{below, all, has, distinct, greatest}
 use Rattle.meaning.proofs.Lists.{get_or_count_from, length_count_from}
 

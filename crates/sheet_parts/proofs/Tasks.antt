@@ -1,13 +1,7 @@
 -- Laws of a task's goals: those of the task's stretch, and none where there is no such task. Assumes nothing.
-use Prim.Native.Nat.{ℕ, ◌≤◌, ◌<◌}
-use mathlib.Core.Path.{◌≡◌, refl, ◌∙◌, subst}
-use mathlib.Core.List.{List, [], map}
-use native.Mathlib.Nat.{zero-add}
+use Rattle.std.proofs.Common.{ℕ, ◌≤◌, ◌<◌, ◌≡◌, refl, ◌∙◌, subst, List, [], map, zero-add, arith, length, get_or, lt-ltb, le-ltb, None, Some}
 use native.Mathlib.Decide.{dec_le}
-use native.Mathlib.Omega.{arith}
-use lib.ListN.{length, get_or, length-map, get_or-eq_default, get_or-map}
-use borrow.Author.Tests.{lt-ltb, le-ltb}
-use Rattle.std.specs.Prelude.{None, Some}
+use lib.ListN.{length-map, get_or-eq_default, get_or-map}
 use Rattle.deck.specs.declared.cause.Cause.{Cause}
 use Rattle.deck.specs.Lists.{below}
 use Rattle.deck.specs.Sheet.{count_of, task, task_pair, task_stretch, part, words, read, goals_of, sheet_cause}

@@ -1,15 +1,8 @@
 -- Laws of two-byte values, and of a stretch that is cut off where the sheet ends. Assumes nothing.
-use Prim.Native.Nat.{ℕ, zero, suc, ◌+◌, ◌*◌, ◌-◌, ◌/◌, ◌≤◌, ◌<◌, min}
-use mathlib.Core.Path.{◌≡◌, refl, sym, ◌∙◌, ap}
-use mathlib.Core.Bool.{◌&&◌}
-use mathlib.Core.List.{List, [], ◌∷◌}
-use native.Mathlib.Nat.{not-suc-le-zero, suc-ne-zero, mul-le-mul}
+use Rattle.std.proofs.Common.{ℕ, zero, suc, ◌+◌, ◌*◌, ◌-◌, ◌/◌, ◌≤◌, ◌<◌, min, ◌≡◌, refl, sym, ◌∙◌, ap, ◌&&◌, List, [], ◌∷◌, not-suc-le-zero, suc-ne-zero, mul-le-mul, arith, eqb, length, get_or, take, drop, length-drop, drop_of_length-le, take_all, ne_eqb}
 use native.Mathlib.Decide.{dec_le}
-use native.Mathlib.Omega.{arith}
-use lib.Dec.{eqb}
-use lib.ListN.{length, get_or, take, drop, length-drop, drop_of_length-le, get_or-eq_default}
-use lib.Seq.{take_all, take-nil}
-use borrow.Author.Tests.{ne_eqb}
+use lib.ListN.{get_or-eq_default}
+use lib.Seq.{take-nil}
 use Rattle.deck.specs.Lists.{last}
 use Rattle.deck.specs.Sheet.{word_at, words}
 

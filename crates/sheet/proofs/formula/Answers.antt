@@ -1,8 +1,5 @@
 -- `sheet::formula` meets its contract, of any sheet; the products of any bytes fit. Assumes nothing.
-use Prim.Native.Nat.{ℕ, ◌+◌, ◌*◌}
-use mathlib.Core.Path.{◌≡◌, refl}
-use mathlib.Core.List.{List}
-use native.Mathlib.Numerals.{add-one}
+use Rattle.std.proofs.Common.{ℕ, ◌+◌, ◌*◌, ◌≡◌, refl, List, add-one}
 use Rattle.deck.specs.Sheet.{horizon_of, limit_of, read, area, most_goals}
 use Rattle.deck.specs.Calls.{workspace_for}
 use Rattle.sheet.proofs.formula.Goals as goal

@@ -1,6 +1,5 @@
 -- `sheet::goal` meets its contract: a word of the task's part. A goal of an accepted sheet is on the grid. Assumes nothing.
-use mathlib.Core.Path.{◌≡◌, refl}
-use lib.ListN.{get_or}
+use Rattle.std.proofs.Common.{◌≡◌, refl, get_or}
 use Rattle.deck.specs.Sheet.{read, goals_of}
 use Rattle.sheet.proofs.Accepted.{goal_on_grid}
 use Rattle.sheet.proofs.goal.Goals as goal

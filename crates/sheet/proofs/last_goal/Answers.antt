@@ -1,5 +1,5 @@
 -- `sheet::last_goal` meets its contract: the last word of the task's part. A goal of an accepted sheet is on the grid. Assumes nothing.
-use mathlib.Core.Path.{◌≡◌, refl}
+use Rattle.std.proofs.Common.{◌≡◌, refl}
 use Rattle.deck.specs.Sheet.{read, last_goal}
 use Rattle.sheet.proofs.Accepted.{last_goal_on_grid}
 use Rattle.sheet.proofs.last_goal.Goals as goal

@@ -1,8 +1,5 @@
 -- `sheet::most_goals` meets its contract: the most of all tasks is the most of those passed and of those left. Assumes nothing.
-use mathlib.Core.Path.{refl}
-use mathlib.Core.List.{map}
-use native.Mathlib.Omega.{arith}
-use lib.ListN.{length}
+use Rattle.std.proofs.Common.{refl, map, arith, length}
 use Rattle.deck.specs.Sheet.{read}
 use Rattle.sheet_parts.proofs.Tasks.{each_task_length, each_task_at}
 use Rattle.sheet_parts.proofs.Scans.{greatest_more, greatest_none}

@@ -1,5 +1,5 @@
 -- `sheet::start` meets its contract: a word of the second stretch. A start of an accepted sheet is on the grid. Assumes nothing.
-use mathlib.Core.Path.{◌≡◌, refl}
+use Rattle.std.proofs.Common.{◌≡◌, refl}
 use Rattle.deck.specs.Sheet.{read, start_of}
 use Rattle.sheet.proofs.Accepted.{start_on_grid}
 use Rattle.sheet.proofs.start.Goals as goal

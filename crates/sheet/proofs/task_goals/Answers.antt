@@ -1,6 +1,5 @@
 -- Of an accepted sheet the part of the task, else the empty part.
-use Rattle.std.proofs.Common.{refl, sym, ◌∙◌}
-use native.Mathlib.Nat.{zero-add}
+use Rattle.std.proofs.Common.{refl, sym, ◌∙◌, zero-add}
 use Rattle.deck.specs.Sheet.{sheet_cause}
 use Rattle.meaning.proofs.Accepted.{none_of_ok, cause_of_err}
 use Rattle.sheet_parts.proofs.Tasks.{goals_accepted, goals_refused, part_begins}

@@ -1,7 +1,5 @@
 -- `sheet::workspace` meets its contract: nothing without carriers, else the formula. Assumes nothing.
-use Prim.Native.Nat.{◌<◌}
-use mathlib.Core.Path.{sym, ◌∙◌}
-use native.Mathlib.Omega.{arith}
+use Rattle.std.proofs.Common.{◌<◌, sym, ◌∙◌, arith}
 use Rattle.deck.specs.Sheet.{read, count_of}
 use Rattle.meaning.proofs.Dark.{with_carriers, workspace_with, workspace_without}
 use Rattle.sheet.proofs.Accepted.{workspace_bound}
