@@ -43,7 +43,6 @@ use Rattle.roots.proofs.Begun.{slots_kept_records}
 use Rattle.expand.specs.Children.{Branch, child_task, child_path}
 use Rattle.scratch.specs.Front.{Front}
 use Rattle.expand.specs.Held.{Held, Same, Grew, grown}
-use Rattle.expand.specs.declared.Made.{Made}
 
 -- THE WORDS PAST THE KEYS are no part of what is held
 module _ (d : Sheet) (l : d.limit ≤ 4096) (before after : List ℕ) (made latest : ℕ) (e : Front d.limit before after) (st : State (List ℕ) Constraint) (h : Held d before made latest st) where
@@ -79,8 +78,8 @@ select_few f (c ∷ l) = go (f c) (select_few f l)
     go true h = omega arith
     go false h = omega arith
 
--- THE LEAST PATH OF THE CHILD of node n by the constraint c, which binds carrier i
-module _ {s mask work bounds : List ℕ} {made latest n : ℕ} {i : Carrier} {c : Constraint} (x : Branch s mask work bounds made latest n i c) where
+-- THE LEAST PATH OF THE CHILD of node n by the constraint c
+module _ {s mask work bounds : List ℕ} {made latest n : ℕ} {c : Constraint} (x : Branch s mask work bounds made latest n c) where
   abbrev d : Sheet
   d = read s
 
@@ -102,18 +101,18 @@ module _ {s mask work bounds : List ℕ} {made latest n : ℕ} {i : Carrier} {c 
   pub child_small : Small c
   child_small = good_small d c fits x.good
 
-  pub carrier_in : i.0 < d.count
-  carrier_in = omega (arith, x.bound, bound_below d c x.good)
+  pub carrier_few : bound_by c < 12
+  carrier_few = omega (arith, bound_below d c x.good, count_range s x.accepted)
 
-  pub carrier_few : i.0 < 12
-  carrier_few = omega (arith, carrier_in, count_range s x.accepted)
+  abbrev bound_carrier : Carrier
+  bound_carrier = carrier (bound_by c)
 
-  -- its records
+  -- those of its constraints that bind the carrier
   abbrev own : List Constraint
-  own = select (binds i) (c ∷ constraints_at work n)
+  own = select (binds bound_carrier) (c ∷ constraints_at work n)
 
   own_good : (k : Constraint) → Mem k own → InRange d k
-  own_good k u = go (mem_select (binds i) (c ∷ constraints_at work n) u).0
+  own_good k u = go (mem_select (binds bound_carrier) (c ∷ constraints_at work n) u).0
     where
       go : Mem k (c ∷ constraints_at work n) → InRange d k
       go (here e) = rw e x.good
@@ -121,7 +120,7 @@ module _ {s mask work bounds : List ℕ} {made latest n : ℕ} {i : Carrier} {c 
 
   own_few : length own ≤ 4096
   own_few =
-      omega (arith, select_few (binds i) (c ∷ constraints_at work n), chain_few (fields_at work) made (suc n) n (stored_links stored) x.below, number_small)
+      omega (arith, select_few (binds bound_carrier) (c ∷ constraints_at work n), chain_few (fields_at work) made (suc n) n (stored_links stored) x.below, number_small)
 
   abbrev own_task : ℕ
   own_task = task_of (problem d) (node_at d work n).tasks (bound_by c)
@@ -138,9 +137,17 @@ module _ {s mask work bounds : List ℕ} {made latest n : ℕ} {i : Carrier} {c 
       all_fit k (here e) = rw e x.good
       all_fit k (there u) = x.node.fits k u
 
-  module _ (rs : List ℕ) (e : rs ≡ each words_of own) (j : Task) (je : j ≡ task (get_or (tasks_in (fields_at work n)) i.0 0)) where
+  -- with the carrier, the list, its records, the parent's record and the task as they are read
+  module _ {i : Carrier} (ei : i.0 ≡ bound_by c) {list : List Constraint} (el : list ≡ own) {rs : List ℕ} (er : rs ≡ each words_of list) {fs : List (List ℕ)} (ef : fs ≡ fields_at work n)
+      {j : Task} (ej : j ≡ task (get_or (tasks_in fs) i.0 0)) where
+    carrier_is : i ≡ bound_carrier
+    carrier_is = ap carrier ei
+
+    records_are : rs ≡ each words_of own
+    records_are = er ∙ ap (each words_of) el
+
     task_is : j ≡ child_task d work n c
-    task_is = je ∙ ap task (task_read d work n i.0 carrier_in ∙ rw x.bound)
+    task_is = (rw (ef, ei) at ej) ∙ ap task (task_read d work n (bound_by c) (bound_below d c x.good))
 
     task_in : j.0 < count_of s
     unfolding problem
@@ -149,35 +156,34 @@ module _ {s mask work bounds : List ℕ} {made latest n : ℕ} {i : Carrier} {c 
     pub child_ready : Ready s i j mask rs
     child_ready = record {
       accepted = x.accepted;
-      carrier_in = carrier_in;
+      carrier_in = rw ei (bound_below d c x.good);
       task_in = task_in;
       masked = x.masked;
-      records = rw e (good_records_lem d own own_good own_few);
+      records = rw records_are (good_records_lem d own own_good own_few);
     }
 
     -- under its records is under its constraints
     pub child_least : least_path d i j (constraints_of rs) ≡ child_path d work n c
     unfolding node_of
     child_least =
-        ap (λ (l : List ℕ). least_path d i j (constraints_of l)) e
-        ∙ ap (least_path d i j) (records_of own)
-        ∙ sym (least_bound d i j (c ∷ constraints_at work n))
-        ∙ rw (task_is, x.bound)
+        rw (carrier_is, records_are, task_is)
+        (ap (least_path d bound_carrier (child_task d work n c)) (records_of own)
+        ∙ sym (least_bound d bound_carrier (child_task d work n c) (c ∷ constraints_at work n)))
 
-    pub child_found : (r : Option ℕ) → r ≡ path_found d j (least_path d i j (constraints_of rs)) → r ≡ path_found d (child_task d work n c) (child_path d work n c)
-    child_found r q = q ∙ ap₂ (path_found d) task_is child_least
+    pub child_found : {r : Option ℕ} → r ≡ path_found d j (least_path d i j (constraints_of rs)) → r ≡ path_found d (child_task d work n c) (child_path d work n c)
+    child_found q = q ∙ ap₂ (path_found d) task_is child_least
 
-    pub child_written : (out after : List ℕ) → after ≡ path_written (least_path d i j (constraints_of rs)) out → after ≡ path_written (child_path d work n c) out
-    child_written out after q = q ∙ ap (λ (p : Option (List ℕ)). path_written p out) child_least
+    pub child_written : (out : List ℕ) {after : List ℕ} → after ≡ path_written (least_path d i j (constraints_of rs)) out → after ≡ path_written (child_path d work n c) out
+    child_written out q = q ∙ ap (λ (p : Option (List ℕ)). path_written p out) child_least
 
     -- it does not finish before the parent's
-    pub child_later : (bound : ℕ) → bound ≡ get_or (finishes_in (fields_at work n)) i.0 0 → NoEarlier d i j (constraints_of rs) bound
+    pub child_later : {bound : ℕ} → bound ≡ get_or (finishes_in fs) i.0 0 → NoEarlier d i j (constraints_of rs) bound
     unfolding problem
-    child_later bound be p q =
+    child_later be p q =
         let under = child_under p (sym child_least ∙ q) in
         let later : finish_of d (task own_task) (path_at (problem d) (node_at d work n).paths (bound_by c)) ≤ finish_of d (task own_task) p =
         (x.node.least (bound_by c) (bound_below d c x.good)).1 p (under.0.0, λ k u. under.0.1 k (there u)) in
-        rw (be ∙ finish_read d work n d.limit made fits stored x.below record_room i.0 carrier_in, ← x.bound, task_is) later
+        rw ((rw (ef, ei) at be) ∙ finish_read d work n d.limit made fits stored x.below record_room (bound_by c) (bound_below d c x.good), task_is) later
 
 -- WHAT THE ANSWER SAYS of the path
 none_found : (d : Sheet) (j : Task) (o : Option (List ℕ)) (r : Option ℕ) → r ≡ path_found d j o → ((f : ℕ) → r ≡ Some f → ⊥) → o ≡ None
@@ -191,7 +197,7 @@ one_found d j None r f e g = absurd (let z : ◌≡◌ {A = ℕ} 0 1 = cc in ome
 one_found d j (Some p) r f e g = (p, refl, cc)
 
 -- THE CHILD, once its path is looked for
-module _ {s mask work bounds : List ℕ} {made latest n : ℕ} {i : Carrier} {c : Constraint} (x : Branch s mask work bounds made latest n i c) (after : List ℕ) (front : Front (read s).limit work after) where
+module _ {s mask work bounds : List ℕ} {made latest n : ℕ} {c : Constraint} (x : Branch s mask work bounds made latest n c) (after : List ℕ) (front : Front (read s).limit work after) where
   module _ (r : Option ℕ) (e : r ≡ path_found (read s) (child_task (read s) work n c) (child_path (read s) work n c)) where
     pub no_path_lem : ((f : ℕ) → r ≡ Some f → ⊥) → child_path (read s) work n c ≡ None
     no_path_lem k = none_found (read s) (child_task (read s) work n c) (child_path (read s) work n c) r e k
@@ -239,16 +245,16 @@ module _ {s mask work bounds : List ℕ} {made latest n : ℕ} {i : Carrier} {c 
     path_is last out written l e =
         rw l (ap (take ((read s).horizon + 1)) (e ∙ ap (λ (o : Option (List ℕ)). path_written o out) q) ∙ take_at p (drop (length p) out) ((read s).horizon + 1) path_long)
 
-    child_of : (f : ℕ) → f ≡ finish_of (read s) (child_task (read s) work n c) p → ChildOf (read s) (read s).limit after made n i.0 c f p
+    child_of : (f : ℕ) → f ≡ finish_of (read s) (child_task (read s) work n c) p → ChildOf (read s) (read s).limit after made n (bound_by c) c f p
     child_of f e =
         let same : fields_at after n ≡ fields_at work n = fields_front after work (read s).limit n (omega (arith, x.below, x.held.1.within)) front in
         record {
           fits = accepted_fits s x.accepted;
           stored = (front_held (read s) few work after made latest front x.held.0 x.held.1).stored;
-          binds = x.bound;
+          binds = refl;
           good = x.good;
-          walk = rw (← x.bound) walk;
-          finish = rw same (e ∙ ap (λ (t : ℕ). finish_of (read s) (task t) p) (rw x.bound (sym (task_read (read s) work n i.0 (carrier_in x)))));
+          walk = walk;
+          finish = rw same (e ∙ ap (λ (t : ℕ). finish_of (read s) (task t) p) (sym (task_read (read s) work n (bound_by c) (bound_below (read s) c x.good))));
         }
 
     module _ (final : List ℕ) (new : Added (read s) (read s).limit after final made (child_node (problem (read s)) (node_at (read s) after n) c p)) where
@@ -281,7 +287,7 @@ module _ {s mask work bounds : List ℕ} {made latest n : ℕ} {i : Carrier} {c 
     -- made by the numbers of the sheet as they are read
     pub new_child : (limit w last f : ℕ) (out written final : List ℕ) → limit ≡ (read s).limit → w ≡ (read s).width → last ≡ (read s).horizon
         → f ≡ finish_of (read s) (child_task (read s) work n c) p → written ≡ path_written (child_path (read s) work n c) out
-        → ((d : Sheet) → d.width ≡ w → d.horizon ≡ last → ChildOf d limit after made n i.0 c f (take (last + 1) written)
+        → ((d : Sheet) → d.width ≡ w → d.horizon ≡ last → ChildOf d limit after made n (bound_by c) c f (take (last + 1) written)
         → Added d limit after final made (child_node (problem d) (node_at d after n) c (take (last + 1) written)))
         → Added (read s) (read s).limit after final made (child_node (problem (read s)) (node_at (read s) after n) c p)
     new_child limit w last f out written final el ew eh e o make =

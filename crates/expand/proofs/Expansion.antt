@@ -8,15 +8,14 @@ use native.Mathlib.Omega.{arith}
 use lib.ListN.{length}
 use lib.Dec.{ltb}
 use Rattle.deck.specs.Sheet.{Sheet, read}
-use Rattle.deck.specs.Search.{Problem, Node, State, Answer, Turn, done, more, spent, task_of, rest_after, root_of, child_node}
-use Rattle.deck.specs.Planner.{problem, bound_by}
-use Rattle.deck.specs.declared.Carrier.{Carrier}
+use Rattle.deck.specs.Search.{Problem, Node, State, Turn, more, task_of, rest_after, root_of, child_node}
+use Rattle.deck.specs.Planner.{problem}
 use Rattle.deck.specs.declared.Constraint.{Constraint}
 use Rattle.meaning.specs.Making.{and_then, add_if, make_root, make_with, make_child, make_each}
 use Rattle.nodes.specs.Nodes.{node_at}
 use Rattle.meaning.specs.Constraints.{InRange}
 use Rattle.expand.specs.Children.{Branch}
-use Rattle.expand.specs.Held.{Given, Held, Holding, Same, Grew, NodeAt, Nodes, grown}
+use Rattle.expand.specs.Held.{Given, Held, Holding, Same, Grew, NodeAt, Nodes}
 use Rattle.expand.specs.declared.Made.{Made}
 
 -- WHERE A STEP DOES NOT END THE SEARCH, no fewer nodes are made after it
@@ -47,15 +46,9 @@ module _ (w : Problem (List ℕ) Constraint) (limit bound : ℕ) where
 
   -- what all come to
   module _ (x : Node (List ℕ) Constraint) (one two : Constraint) (rest : List (List ℕ)) (s : State (List ℕ) Constraint) where
-    each_first : (a : Answer (List ℕ)) → make_root w limit bound x.root rest s ≡ done a → make_each w limit bound x (one, two) rest s ≡ done a
-    each_first a e = ap (λ (t : Turn (List ℕ) Constraint). and_then t (λ u. and_then (make_child w limit bound x one u) (make_child w limit bound x two))) e
-
     module _ (t : State (List ℕ) Constraint) (e : make_root w limit bound x.root rest s ≡ more t) where
       after_root : make_each w limit bound x (one, two) rest s ≡ and_then (make_child w limit bound x one t) (make_child w limit bound x two)
       after_root = ap (λ (u : Turn (List ℕ) Constraint). and_then u (λ v. and_then (make_child w limit bound x one v) (make_child w limit bound x two))) e
-
-      each_second : (a : Answer (List ℕ)) → make_child w limit bound x one t ≡ done a → make_each w limit bound x (one, two) rest s ≡ done a
-      each_second a g = after_root ∙ ap (λ (u : Turn (List ℕ) Constraint). and_then u (make_child w limit bound x two)) g
 
       each_third : (u : State (List ℕ) Constraint) → make_child w limit bound x one t ≡ more u → make_each w limit bound x (one, two) rest s ≡ make_child w limit bound x two u
       each_third u g = after_root ∙ ap (λ (v : Turn (List ℕ) Constraint). and_then v (make_child w limit bound x two)) g
@@ -75,39 +68,36 @@ ChildStep d work after made latest n c r =
 renumber : {d : Sheet} {work : List ℕ} {made latest : ℕ} {st : State (List ℕ) Constraint} → Held d work made latest st → Held d work made latest (record { opened = st.opened; made = made; rest = st.rest })
 renumber h = record { stored = h.stored; opened = h.opened; number = refl; slots = h.slots; recent = h.recent; within = h.within }
 
-module _ {d : Sheet} {work after : List ℕ} {made latest k l : ℕ} {r : Option Made} (h : Holding d work made latest) (e : r ≡ grown k l) (n : ℕ) where
-  root_held : RootStep d work after made latest n r → Holding d after k l × (made ≤ k)
+module _ {d : Sheet} {work after : List ℕ} {made latest : ℕ} (m : Made) (h : Holding d work made latest) (n : ℕ) where
+  root_held : RootStep d work after made latest n (Some m) → Holding d after m.nodes m.latest × (made ≤ m.nodes)
   root_held step =
       let st = h.0 in
       let root = (node_at d work n).root in
       let before : State (List ℕ) Constraint = record { opened = st.opened; made = made; rest = rest_after (problem d) root st.rest } in
-      let g : Grew d after 0 (grown k l) (make_root (problem d) d.limit 0 root st.rest before) =
-      subst (λ (x : Option Made). Grew d after 0 x (make_root (problem d) d.limit 0 root st.rest before)) e (step st.opened st.rest 0 (renumber h.1)) in
+      let g = step st.opened st.rest 0 (renumber h.1) in
       ((g.0, g.2), omega (arith, root_more (problem d) d.limit 0 root st.rest before g.0 g.1, g.2.number))
 
-  child_held : (c : Constraint) → ChildStep d work after made latest n c r → Holding d after k l × (made ≤ k)
+  child_held : (c : Constraint) → ChildStep d work after made latest n c (Some m) → Holding d after m.nodes m.latest × (made ≤ m.nodes)
   child_held c step =
       let st = h.0 in
-      let g : Grew d after 0 (grown k l) (make_child (problem d) d.limit 0 (node_at d work n) c st) =
-      subst (λ (x : Option Made). Grew d after 0 x (make_child (problem d) d.limit 0 (node_at d work n) c st)) e (step st 0 h.1) in
+      let g = step st 0 h.1 in
       ((g.0, g.2), omega (arith, child_more (problem d) d.limit 0 (node_at d work n) c st g.0 g.1, g.2.number, h.1.number))
 
--- no fewer nodes are made, so that those made before a step are as they were after the next one too
-pub fewer_root : {d : Sheet} {work after : List ℕ} {made latest k l : ℕ} {r : Option Made} (n : ℕ) → Holding d work made latest → r ≡ grown k l → RootStep d work after made latest n r → Same d work after made → made ≤ k
-fewer_root n h e step same = (root_held h e n step).1
+  -- no fewer nodes are made, so that those made before a step are as they were after the next one too
+  pub fewer_root : RootStep d work after made latest n (Some m) → made ≤ m.nodes
+  fewer_root step = (root_held step).1
 
-pub fewer_child : {s mask work bounds after : List ℕ} {made latest k l n : ℕ} {i : Carrier} {c : Constraint} {r : Option Made} → Branch s mask work bounds made latest n i c → r ≡ grown k l
-    → ChildStep (read s) work after made latest n c r → Same (read s) work after made → made ≤ k
-fewer_child {n = n} {c = c} x e step same = (child_held x.held e n c step).1
+pub fewer_child : {s mask work bounds after : List ℕ} {made latest n : ℕ} {c : Constraint} (m : Made) → Branch s mask work bounds made latest n c → ChildStep (read s) work after made latest n c (Some m) → made ≤ m.nodes
+fewer_child {n = n} {c = c} m x step = (child_held m x.held n c step).1
 
 pub same_on : {d : Sheet} {work first second : List ℕ} {made k : ℕ} → made ≤ k → Same d work first made → Same d first second k → Same d work second made
 same_on m p q = record { nodes = λ j h. q.nodes j (omega arith) ∙ p.nodes j h; keys = λ j h. q.keys j (omega arith) ∙ p.keys j h }
 
 -- THE CHILDREN: what each is made of, the first after the root, the second after the first
-pub first_branch : {s mask table work bounds after : List ℕ} {made latest k l n : ℕ} {i : Carrier} {c : Constraint} {r : Option Made} → Given s mask table work bounds → n < made → Holding (read s) work made latest → NodeAt (read s) work n
-    → r ≡ grown k l → RootStep (read s) work after made latest n r → Same (read s) work after made → length after ≡ length work → bound_by c ≡ i.0 → InRange (read s) c → Branch s mask after bounds k l n i c
-first_branch {n = n} given b h o e step same long bound good =
-    let g = root_held h e n step in
+pub first_branch : {s mask table work bounds after : List ℕ} {made latest n : ℕ} {c : Constraint} (m : Made) → Given s mask table work bounds → n < made → Holding (read s) work made latest → NodeAt (read s) work n
+    → RootStep (read s) work after made latest n (Some m) → Same (read s) work after made → length after ≡ length work → InRange (read s) c → Branch s mask after bounds m.nodes m.latest n c
+first_branch {n = n} m given b h o step same long good =
+    let g = root_held m h n step in
     record {
       accepted = given.accepted;
       masked = given.masked;
@@ -115,15 +105,14 @@ first_branch {n = n} given b h o e step same long bound good =
       held = g.0;
       below = omega (arith, g.1);
       node = rw (same.nodes n b) o;
-      bound = bound;
       good = good;
       bounded = given.bounded;
     }
 
-pub second_branch : {s mask work bounds after : List ℕ} {made latest k l n : ℕ} {i j : Carrier} {c b : Constraint} {r : Option Made} → Branch s mask work bounds made latest n i c
-    → r ≡ grown k l → ChildStep (read s) work after made latest n c r → Same (read s) work after made → length after ≡ length work → bound_by b ≡ j.0 → InRange (read s) b → Branch s mask after bounds k l n j b
-second_branch {n = n} {c = c} x e step same long bound good =
-    let g = child_held x.held e n c step in
+pub second_branch : {s mask work bounds after : List ℕ} {made latest n : ℕ} {c b : Constraint} (m : Made) → Branch s mask work bounds made latest n c
+    → ChildStep (read s) work after made latest n c (Some m) → Same (read s) work after made → length after ≡ length work → InRange (read s) b → Branch s mask after bounds m.nodes m.latest n b
+second_branch {n = n} {c = c} m x step same long good =
+    let g = child_held m x.held n c step in
     record {
       accepted = x.accepted;
       masked = x.masked;
@@ -131,45 +120,28 @@ second_branch {n = n} {c = c} x e step same long bound good =
       held = g.0;
       below = omega (arith, x.below, g.1);
       node = rw (same.nodes n x.below) x.node;
-      bound = bound;
       good = good;
       bounded = x.bounded;
     }
 
 -- THE WHOLE: of node n of `work`, by the root, and then by the children
-module _ (d : Sheet) (work first : List ℕ) (made latest n : ℕ) (b : n < made) (one two : Constraint) (r : Option Made) (root : RootStep d work first made latest n r) (opened : Nodes) (rest : List (List ℕ)) (bound : ℕ)
-    (h : Held d work made latest (record { opened = opened; made = made; rest = rest })) where
+module _ (d : Sheet) (work first : List ℕ) (made latest n : ℕ) (b : n < made) (one two : Constraint) (m : Made) (root : RootStep d work first made latest n (Some m)) (same : Same d work first made) where
   abbrev x : Node (List ℕ) Constraint
   x = node_at d work n
 
-  abbrev st : State (List ℕ) Constraint
-  st = record { opened = opened; made = made; rest = rest_after (problem d) x.root rest }
+  abbrev Whole : List ℕ → Option Made → Type 0
+  Whole after r =
+      (opened : Nodes) (rest : List (List ℕ)) (bound : ℕ) → Held d work made latest (record { opened = opened; made = made; rest = rest })
+      → Grew d after bound r
+      (make_each (problem d) d.limit bound x (one, two) rest (record { opened = opened; made = made; rest = rest_after (problem d) x.root rest }))
 
-  abbrev all : Turn (List ℕ) Constraint
-  all = make_each (problem d) d.limit bound x (one, two) rest st
-
-  pub spent_first : r ≡ None → all ≡ done (spent d.limit bound)
-  spent_first e =
-      each_first (problem d) d.limit bound x one two rest st (spent d.limit bound)
-      (subst (λ (g : Option Made). Grew d first bound g (make_root (problem d) d.limit bound x.root rest st)) e (root opened rest bound h))
-
-  module _ (k l : ℕ) (e : r ≡ grown k l) (same : Same d work first made) (second : List ℕ) (q : Option Made) (child : ChildStep d first second k l n one q) where
-    grew_first : Grew d first bound (grown k l) (make_root (problem d) d.limit bound x.root rest st)
-    grew_first = subst (λ (g : Option Made). Grew d first bound g (make_root (problem d) d.limit bound x.root rest st)) e (root opened rest bound h)
-
-    one_child : Grew d second bound q (make_child (problem d) d.limit bound x one grew_first.0)
-    one_child = rw (← same.nodes n b) (child grew_first.0 bound grew_first.2)
-
-    pub spent_second : q ≡ None → all ≡ done (spent d.limit bound)
-    spent_second z =
-        each_second (problem d) d.limit bound x one two rest st grew_first.0 grew_first.1 (spent d.limit bound)
-        (subst (λ (g : Option Made). Grew d second bound g (make_child (problem d) d.limit bound x one grew_first.0)) z one_child)
-
-    pub made_third : (k2 l2 : ℕ) → q ≡ grown k2 l2 → Same d first second k → (third : List ℕ) (p : Option Made) → ChildStep d second third k2 l2 n two p → Grew d third bound p all
-    made_third k2 l2 z again third p last =
-        let a : n < k = omega (arith, root_more (problem d) d.limit bound x.root rest st grew_first.0 grew_first.1, grew_first.2.number) in
-        let g : Grew d second bound (grown k2 l2) (make_child (problem d) d.limit bound x one grew_first.0) =
-        subst (λ (g : Option Made). Grew d second bound g (make_child (problem d) d.limit bound x one grew_first.0)) z one_child in
-        let two-child : Grew d third bound p (make_child (problem d) d.limit bound x two g.0) =
-        subst (λ (y : Node (List ℕ) Constraint). Grew d third bound p (make_child (problem d) d.limit bound y two g.0)) (again.nodes n a ∙ same.nodes n b) (last g.0 bound g.2) in
-        subst (Grew d third bound p) (sym (each_third (problem d) d.limit bound x one two rest st grew_first.0 grew_first.1 g.0 g.1)) two-child
+  pub made_third : {second : List ℕ} (k : Made) → ChildStep d first second m.nodes m.latest n one (Some k) → Same d first second m.nodes
+      → (third : List ℕ) (r : Option Made) → ChildStep d second third k.nodes k.latest n two r → Whole third r
+  made_third {second} k child again third r last opened rest bound h =
+      let st : State (List ℕ) Constraint = record { opened = opened; made = made; rest = rest_after (problem d) x.root rest } in
+      let g = root opened rest bound h in
+      let a : n < m.nodes = omega (arith, root_more (problem d) d.limit bound x.root rest st g.0 g.1, g.2.number) in
+      let one-child : Grew d second bound (Some k) (make_child (problem d) d.limit bound x one g.0) = rw (← same.nodes n b) (child g.0 bound g.2) in
+      let two-child : Grew d third bound r (make_child (problem d) d.limit bound x two one-child.0) =
+      subst (λ (y : Node (List ℕ) Constraint). Grew d third bound r (make_child (problem d) d.limit bound y two one-child.0)) (again.nodes n a ∙ same.nodes n b) (last one-child.0 bound one-child.2) in
+      subst (Grew d third bound r) (sym (each_third (problem d) d.limit bound x one two rest st g.0 g.1 one-child.0 one-child.1)) two-child

@@ -1,12 +1,11 @@
 -- The root of the next assignment: whether one remains, as the chosen slot says, and the state that is held once it is made. Assumes
 -- nothing.
 use Prim.Native.Nat.{ℕ, ◌+◌, ◌*◌, ◌<◌, ◌≤◌}
-use mathlib.Core.Path.{◌≡◌, refl, sym, ap, subst, ◌∙◌}
+use mathlib.Core.Path.{◌≡◌, refl, sym, subst, ◌∙◌}
 use mathlib.Core.Logic.{⊎_elim}
-use mathlib.Core.Bool.{Bool, true, false, not, not-not}
+use mathlib.Core.Bool.{Bool, true, false}
 use mathlib.Core.List.Memᴰ.{not-nil}
 use mathlib.Core.List.{List, [], ◌∷◌, Memᴰ as Mem}
-use Rattle.std.specs.Prelude.{Some}
 use native.Mathlib.Omega.{arith}
 use lib.ListN.{length, get_or-eq_default}
 use borrow.Author.Tests.{lt-ltb, le-ltb}
@@ -29,12 +28,10 @@ use Rattle.roots.specs.Slots.{slot_of, slots_at}
 use Rattle.roots.specs.Tournament.{SlotsHold, FirstSlot, NextTaken}
 use Rattle.roots.specs.Begun.{RootBegun}
 use Rattle.roots.specs.declared.Choice.{Choice}
-use Rattle.roots.specs.declared.Choice.TheVariants.{Nothing, Slot as Chosen}
 use Rattle.roots.proofs.Chosen.{live_slot}
 use Rattle.roots.proofs.Begun.{begun_stored, begun_nodes, begun_opened}
 use Rattle.roots.proofs.Made.{nothing_left}
 use Rattle.expand.specs.Held.{Given, Nodes, Held, Begun, Same, Grew, grown}
-use Rattle.expand.specs.declared.Made.{Made}
 use Rattle.expand.proofs.RootPaths.{room_keys}
 
 -- THE DEFINITION'S STEP, by whether the node is a root and what remains
@@ -66,11 +63,11 @@ module _ (d : Sheet) (work : List ℕ) (made latest : ℕ) (bound : ℕ) (b : Bo
   one_more a others e q less H = (added (root_of (problem d) a ∷ []) (held_state opened made others), rw (e, q, lt-ltb made d.limit less) refl, H)
 
 -- what is read of the record
-pub is_no_root : (d : Sheet) (work : List ℕ) (n : ℕ) (r : Bool) → r ≡ root_in (fields_at work n) → not r ≡ true → (node_at d work n).root ≡ false
-is_no_root d work n r e t = sym (root_read d work n) ∙ sym e ∙ sym (not-not r) ∙ ap not t
+pub is_no_root : (d : Sheet) (work : List ℕ) (n : ℕ) (r : Bool) → r ≡ root_in (fields_at work n) → r ≡ false → (node_at d work n).root ≡ false
+is_no_root d work n r e t = sym (root_read d work n) ∙ sym e ∙ t
 
-pub is_root : (d : Sheet) (work : List ℕ) (n : ℕ) (r : Bool) → r ≡ root_in (fields_at work n) → not r ≡ false → (node_at d work n).root ≡ true
-is_root d work n r e t = sym (root_read d work n) ∙ sym e ∙ sym (not-not r) ∙ ap not t
+pub is_root : (d : Sheet) (work : List ℕ) (n : ℕ) (r : Bool) → r ≡ root_in (fields_at work n) → r ≡ true → (node_at d work n).root ≡ true
+is_root d work n r e t = sym (root_read d work n) ∙ sym e ∙ t
 
 -- THE SLOTS, by the numbers that the code has
 module _ {s mask table work bounds : List ℕ} (g : Given s mask table work bounds) {made latest : ℕ} {st : State (List ℕ) Constraint} (H : Held (read s) work made latest st) where
@@ -87,18 +84,18 @@ module _ {s mask table work bounds : List ℕ} (g : Given s mask table work boun
         (subst (λ (t : List ℕ). SlotsHold (read s).count t work latest st.rest) (sym g.table_is) H.slots)
 
     -- without a slot no assignment remains
-    pub without_slot : (r : Choice) → FirstSlot m work latest r → r ≡ Nothing → st.rest ≡ []
+    pub without_slot : (r : Option Choice) → FirstSlot m work latest r → r ≡ None → st.rest ≡ []
     without_slot r c e = nothing_left m (copied m table) work latest st.rest few_carriers slots_asked (subst (FirstSlot m work latest) e c)
 
     -- with one, one remains: the first assignment of the slot's part
-    pub with_slot_lem : (r : Choice) (n j : ℕ) → FirstSlot m work latest r → r ≡ Chosen n j → (a : List ℕ) × (others : List (List ℕ)) × (st.rest ≡ a ∷ others)
-    with_slot_lem r n j c e = go st.rest remains
+    pub with_slot_lem : (r : Option Choice) (k : Choice) → FirstSlot m work latest r → r ≡ Some k → (a : List ℕ) × (others : List (List ℕ)) × (st.rest ≡ a ∷ others)
+    with_slot_lem r k c e = go st.rest remains
       where
         slot : Slot
-        slot = slot_of m (fields_at work n) j
+        slot = slot_of m (fields_at work k.n) k.j
 
         inside : Mem slot (slots_at m work slots_asked.roots)
-        inside = live_slot m work slots_asked.roots n j (subst (FirstSlot m work latest) e c (copied m table) st.rest slots_asked).0
+        inside = live_slot m work slots_asked.roots k.n k.j (subst (FirstSlot m work latest) e c (copied m table) st.rest slots_asked).0
 
         first : Candidate m (copied m table) slot.part (Some slot.first)
         first = subst (Candidate m (copied m table) slot.part) (slots_asked.parts.holds.right slot inside) (candidate_meant m (copied m table) slot.part)

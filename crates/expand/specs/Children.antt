@@ -1,13 +1,11 @@
 -- The child of node n by one more constraint: what it is made of, and the task and the path of the carrier that the constraint binds.
 -- Assumes nothing.
-use Rattle.std.specs.Prelude.{ℕ, ◌<◌, ◌≤◌, ◌≡◌, List, ◌∷◌, length, None}
-use Rattle.std.specs.Prelude.{Option}
+use Rattle.std.specs.Prelude.{ℕ, ◌<◌, ◌≤◌, ◌≡◌, List, ◌∷◌, length, Option, None}
 use Rattle.deck.specs.Sheet.{Sheet, read, cause, carrier, task}
 use Rattle.deck.specs.Paths.{least_path}
 use Rattle.deck.specs.Search.{task_of}
 use Rattle.deck.specs.Planner.{problem, bound_by}
 use Rattle.deck.specs.Calls.{workspace_for}
-use Rattle.deck.specs.declared.Carrier.{Carrier}
 use Rattle.deck.specs.declared.Task.{Task}
 use Rattle.deck.specs.declared.Constraint.{Constraint}
 use Rattle.bars.specs.Padded.{MaskOf}
@@ -17,15 +15,14 @@ use Rattle.scratch.specs.Bounded.{Bounded}
 use Rattle.expand.specs.Held.{Holding, NodeAt}
 
 -- of an accepted sheet with its mask, a workspace with room and the lower bounds of its tasks: node n is held and its paths are
--- least, and c is a constraint of the sheet that binds carrier i
-pub record Branch (s mask work bounds : List ℕ) (made latest n : ℕ) (i : Carrier) (c : Constraint) : Type 0 where
+-- least, and c is a constraint of the sheet
+pub record Branch (s mask work bounds : List ℕ) (made latest n : ℕ) (c : Constraint) : Type 0 where
   pub accepted : cause s ≡ None
   pub masked : MaskOf (read s) mask
   pub room : workspace_for (read s) ≤ length work
   pub held : Holding (read s) work made latest
   pub below : n < made
   pub node : NodeAt (read s) work n
-  pub bound : bound_by c ≡ i.0
   pub good : InRange (read s) c
   pub bounded : Bounded (read s) bounds
 

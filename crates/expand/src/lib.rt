@@ -149,7 +149,7 @@ fn child_path(
     out: &mut [u16],
     bounds: &[u8],
 ) -> Option<usize>
-    requires by_index { (made : ℕ) × (latest : ℕ) × Branch s.now mask.now work.old bounds.now made latest n (carrier (bound_by c)) c }
+    requires by_index { (made : ℕ) × (latest : ℕ) × Branch s.now mask.now work.old bounds.now made latest n c }
     requires room { suc (read s.now).horizon ≤ length out.old }
     ensures answer { result ≡ path_found (read s.now) (child_task (read s.now) work.old n c) (child_path (read s.now) work.old n c) }
     ensures written { out.new ≡ path_written (child_path (read s.now) work.old n c) out.old }
@@ -160,18 +160,7 @@ fn child_path(
     let parent = Record::at(work, n);
     let j = parent.task(i);
     let bound = parent.finish(i);
-    scratch::least(
-        s,
-        i,
-        j,
-        mask,
-        bound,
-        work,
-        spare,
-        out,
-        list.words(),
-        bounds,
-    )
+    scratch::least(s, i, j, mask, bound, work, spare, out, list.words(), bounds)
 }
 
 // Makes the child of node n by one more constraint, where its carrier has a path. None if no node is left for it.
@@ -186,7 +175,7 @@ fn make_child(
     c: Constraint,
     bounds: &[u8],
 ) -> Option<Made>
-    requires { Branch s.now mask.now work.old bounds.now made.nodes made.latest n (carrier (bound_by c)) c }
+    requires { Branch s.now mask.now work.old bounds.now made.nodes made.latest n c }
     ensures grew { (st : State (List ℕ) Constraint) (bound : ℕ) → Held (read s.now) work.old made.nodes made.latest st → Grew (read s.now) work.new bound result (make_child (problem (read s.now)) (read s.now).limit bound (node_at (read s.now) work.old n) c st) }
     ensures same { Same (read s.now) work.old work.new made.nodes }
 {

@@ -1,63 +1,37 @@
 -- `child_path` meets its contract: the records are those of the child's constraints, and its path does not finish before its parent's.
 -- Assumes nothing.
 use native.Mathlib.Omega.{arith}
-use mathlib.Core.Path.{sym}
-use lib.Seq.{length-take-le}
 use Rattle.expand.proofs.ChildPath.{record_room, number_small, child_linked, child_small, carrier_few, child_ready, child_found, child_written, child_later}
 use Rattle.expand.proofs.child_path.Goals as goal
 
-pub constraints-size-requires : goal.constraints-size-requires
-constraints-size-requires c =
-    let pre = c.requires in
-    let x = pre.by_index.2 in
-    (record_room x, number_small x, pre.list_len.0, child_linked x, child_small x)
-
-pub task_of-j-requires : goal.task_of-j-requires
-task_of-j-requires c =
+pub constraints-requires : goal.constraints-requires
+constraints-requires c =
     let x = c.requires.by_index.2 in
-    (record_room x, carrier_few x)
+    (record_room x, number_small x, child_linked x, child_small x)
 
-pub finish_of-bound-requires : goal.finish_of-bound-requires
-finish_of-bound-requires c =
-    let x = c.requires.by_index.2 in
-    (record_room x, carrier_few x)
+pub at-parent-requires : goal.at-parent-requires
+at-parent-requires c = record_room c.requires.by_index.2
 
-pub slice_bounds-least-end : goal.slice_bounds-least-end
-slice_bounds-least-end c =
-    let constraints = c.constraints-size in
-    let pre = c.requires in
-    omega (arith, constraints.ensures.0, constraints.auto.list, number_small pre.by_index.2, pre.list_len.0)
+pub task-j-requires : goal.task-j-requires
+task-j-requires c = omega (arith, c.bound_by-i.ensures, carrier_few c.requires.by_index.2)
 
-pub slice_bounds-least-end-2 : goal.slice_bounds-least-end-2
-slice_bounds-least-end-2 c =
-    let constraints = c.constraints-size in
-    let pre = c.requires in
-    sym (length-take-le _ _ (omega (arith, constraints.ensures.0, constraints.auto.list, number_small pre.by_index.2, pre.list_len.0)))
+pub finish-bound-requires : goal.finish-bound-requires
+finish-bound-requires c = omega (arith, c.bound_by-i.ensures, carrier_few c.requires.by_index.2)
 
 pub least-requires : goal.least-requires
 least-requires c =
-    let pre = c.requires in
-    let constraints = c.constraints-size in
-    let own_task = c.task_of-j in
-    let finish-of = c.finish_of-bound in
-    let x = pre.by_index.2 in (
-      child_ready x _ constraints.ensures.1 own_task.result own_task.ensures,
-      child_later x _ constraints.ensures.1 own_task.result own_task.ensures _ finish-of.ensures,
+    let x = c.requires.by_index.2 in (
+      child_ready x c.bound_by-i.ensures c.constraints.ensures c.words.ensures c.at-parent.ensures c.task-j.ensures,
+      child_later x c.bound_by-i.ensures c.constraints.ensures c.words.ensures c.at-parent.ensures c.task-j.ensures c.finish-bound.ensures,
       x.room,
-      pre.list_len.1,
+      c.requires.room,
       x.bounded,
     )
 
 pub returns-clause-answer : goal.returns-clause-answer
 returns-clause-answer c =
-    let x = c.requires.by_index.2 in
-    let constraints = c.constraints-size in
-    let own_task = c.task_of-j in
-    let least = c.least in child_found x _ constraints.ensures.1 own_task.result own_task.ensures _ least.ensures.answer
+    child_found c.requires.by_index.2 c.bound_by-i.ensures c.constraints.ensures c.words.ensures c.at-parent.ensures c.task-j.ensures c.least.ensures.answer
 
 pub returns-clause-written : goal.returns-clause-written
 returns-clause-written c =
-    let x = c.requires.by_index.2 in
-    let constraints = c.constraints-size in
-    let own_task = c.task_of-j in
-    let least = c.least in child_written x _ constraints.ensures.1 own_task.result own_task.ensures _ _ least.ensures.written
+    child_written c.requires.by_index.2 c.bound_by-i.ensures c.constraints.ensures c.words.ensures c.at-parent.ensures c.task-j.ensures _ c.least.ensures.written

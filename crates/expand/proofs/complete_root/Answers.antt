@@ -27,8 +27,7 @@ open_root-requires c =
     let q = c.requires in
     let e = c.limit.ensures.value in (
       omega (arith, e, q.by_index.2.within),
-      omega (arith, e, limit_low q.given),
-      omega (arith, e, room_keys q.given, c.loop-i.invariant.1),
+      (omega (arith, e, limit_low q.given), omega (arith, e, room_keys q.given, c.loop-i.invariant.1)),
     )
 
 pub returns-clause-held : goal.returns-clause-held
@@ -37,7 +36,8 @@ returns-clause-held c =
     let l = c.loop-i in
     let o = c.open_root in
     let f = accepted_fits c.args.s.now q.given.accepted in
-    let full : l.i ≡ (read c.args.s.now).count = omega (arith, c.count-m.ensures.value, c.loop-i-test.false) in λ a st b. root_held f (l.invariant.3 a st b) full c.limit.ensures.value o.ensures.added o.ensures.by_index
+    let full : l.i ≡ (read c.args.s.now).count = omega (arith, c.count-m.ensures.value, c.loop-i-test.false) in
+    λ a st b. root_held f (l.invariant.3 a st b) full c.limit.ensures.value o.ensures.added o.ensures.by_index
 
 pub returns-clause-same : goal.returns-clause-same
 returns-clause-same c =

@@ -7,7 +7,7 @@ use Rattle.expand.proofs.make_child.Goals as goal
 
 pub returns-in_default : goal.returns-in_default
 returns-in_default c =
-    let x = c.requires.0 in
+    let x = c.requires in
     let path = c.child_path in
     record {
       grew = not_made x _ path.ensures.front (no_path_lem x _ path.ensures.front path.result path.ensures.answer c.in_default.not-Some);
@@ -16,7 +16,7 @@ returns-in_default c =
 
 pub returns-then-made-limit : goal.returns-then-made-limit
 returns-then-made-limit c =
-    let x = c.requires.0 in
+    let x = c.requires in
     let path = c.child_path in
     let found = a_path x _ path.ensures.front path.result path.ensures.answer _ c.in-Some.is in
     record {
@@ -28,16 +28,15 @@ pub make_child-requires : goal.make_child-requires
 make_child-requires c =
     let path = c.child_path in
     let word = c.limit-limit in
-    let x = c.requires.0 in
+    let x = c.requires in
     let found = a_path x _ path.ensures.front path.result path.ensures.answer _ c.in-Some.is in
     record {
       n_lt_made = (
         x.below,
         omega (arith, x.held.1.within, word.ensures.value),
-        omega (arith, limit_range _ x.accepted, word.ensures.value),
-        omega (arith, records_room _ _ x.room, word.ensures.value, path.auto.work),
         carrier_few x,
         child_small x,
+        (omega (arith, limit_range _ x.accepted, word.ensures.value), omega (arith, records_room _ _ x.room, word.ensures.value, path.auto.work)),
       );
       finish_bound = (
         omega (arith, finish_small x _ path.ensures.front found.0 found.1 _ found.2),
@@ -48,7 +47,7 @@ make_child-requires c =
 
 pub returns : goal.returns
 returns c =
-    let x = c.requires.0 in
+    let x = c.requires in
     let path = c.child_path in
     let word = c.limit-limit in
     let found = a_path x _ path.ensures.front path.result path.ensures.answer _ c.in-Some.is in

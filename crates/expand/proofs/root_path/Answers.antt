@@ -1,19 +1,21 @@
 -- `search::expand::root_path` meets its contract: the path written is the least without constraints, and its finish the table's entry.
 -- That there is one follows from the assignment, which uses no barred entry. Assumes nothing.
-use mathlib.Core.Path.{sym, ◌∙◌}
-use native.Mathlib.Omega.{arith}
-use lib.ListN.{replicate}
+use Rattle.std.proofs.Common.{sym, ◌∙◌, arith, replicate}
+use Rattle.std.proofs.lemmas.Option.{get_or_from_slice_get}
 use Rattle.sheet.proofs.Accepted.{count_range, width_range, horizon_range}
 use Rattle.expand.proofs.RootPaths.{room_record, task_in, root_ready, root_bound, root_found, path_long, finish_small, root_path_begun, root_path_same}
 use Rattle.expand.proofs.root_path.Goals as goal
 
-pub task_of-j-requires : goal.task_of-j-requires
-task_of-j-requires c =
+pub at-requires : goal.at-requires
+at-requires c =
+    let q = c.requires in
+    room_record q.given.0 c.args.n q.by_index.2.within
+
+pub task-j-requires : goal.task-j-requires
+task-j-requires c =
     let u = c.args in
-    let q = c.requires in (
-      room_record q.given.0 u.n q.by_index.2.within,
-      omega (arith, q.given.1, count_range u.s.now q.given.0.accepted),
-    )
+    let q = c.requires in
+    omega (arith, q.given.1, count_range u.s.now q.given.0.accepted)
 
 pub entry-requires : goal.entry-requires
 entry-requires c =
@@ -21,16 +23,16 @@ entry-requires c =
     let q = c.requires in
     let n = count_range u.s.now q.given.0.accepted in (
       omega (arith, q.given.1, n),
-      omega (arith, n, task_in u.i q.given.0 q.given.1 q.by_index.2 c.task_of-j.ensures),
+      omega (arith, n, task_in u.i q.given.0 q.given.1 q.by_index.2 (rw c.at.ensures at c.task-j.ensures)),
     )
 
 pub least-requires : goal.least-requires
 least-requires c =
     let u = c.args in
     let q = c.requires in
-    let j = c.task_of-j in (
-      root_ready u.i q.given.0 q.given.1 q.by_index.2 j.ensures,
-      root_bound u.i q.given.0 q.given.1 q.by_index.2 j.ensures (c.wide-bound.ensures.0 ∙ c.entry.ensures),
+    let j = rw c.at.ensures at c.task-j.ensures in (
+      root_ready u.i q.given.0 q.given.1 q.by_index.2 j,
+      root_bound u.i q.given.0 q.given.1 q.by_index.2 j (c.from-bound.ensures ∙ sym (get_or_from_slice_get u.t.now _ _ 0 c.entry.ensures)),
       q.given.0.room,
       omega (arith, horizon_range u.s.now q.given.0.accepted),
       q.given.0.bounded,
@@ -40,19 +42,19 @@ pub returns-in_default : goal.returns-in_default
 returns-in_default c =
     let u = c.args in
     let q = c.requires in
-    absurd (c.in_default.not-Some _ (root_found u.i q.given.0 q.given.1 q.by_index.2 c.task_of-j.ensures c.least.ensures.answer))
+    absurd (c.in_default.not-Some _ (root_found u.i q.given.0 q.given.1 q.by_index.2 (rw c.at.ensures at c.task-j.ensures) c.least.ensures.answer))
 
 pub put_path-requires : goal.put_path-requires
 put_path-requires c =
     let u = c.args in
     let q = c.requires in
-    let j = c.task_of-j in
+    let j = rw c.at.ensures at c.task-j.ensures in
     let l = c.least in (
       omega (arith, room_record q.given.0 u.n q.by_index.2.within, l.auto.work),
       omega (arith, q.given.1, count_range u.s.now q.given.0.accepted),
-      finish_small u.i q.given.0 q.given.1 q.by_index.2 j.ensures l.ensures.answer
+      finish_small u.i q.given.0 q.given.1 q.by_index.2 j l.ensures.answer
           c.in-Some.is,
-      sym (path_long u.i q.given.0 q.given.1 q.by_index.2 j.ensures (replicate 256 0) l.ensures.written
+      sym (path_long u.i q.given.0 q.given.1 q.by_index.2 j (replicate 256 0) l.ensures.written
           c.horizon-last.ensures.value),
       omega (arith, c.width-w.ensures.value, width_range u.s.now q.given.0.accepted),
     )
@@ -61,9 +63,9 @@ pub returns-clause-begun : goal.returns-clause-begun
 returns-clause-begun c =
     let u = c.args in
     let q = c.requires in
-    let j = c.task_of-j in
+    let j = rw c.at.ensures at c.task-j.ensures in
     let l = c.least in
-    λ a st k. root_path_begun u.i q.given.0 q.given.1 k j.ensures l.ensures.answer c.in-Some.is
+    λ a st k. root_path_begun u.i q.given.0 q.given.1 k j l.ensures.answer c.in-Some.is
     (replicate 256 0) l.ensures.written l.new.work l.ensures.front l.auto.work
     c.width-w.ensures.value c.horizon-last.ensures.value c.put_path.ensures
 
@@ -71,8 +73,8 @@ pub returns-clause-same : goal.returns-clause-same
 returns-clause-same c =
     let u = c.args in
     let q = c.requires in
-    let j = c.task_of-j in
+    let j = rw c.at.ensures at c.task-j.ensures in
     let l = c.least in
-    root_path_same u.i q.given.0 q.given.1 q.by_index.2 j.ensures l.ensures.answer c.in-Some.is
+    root_path_same u.i q.given.0 q.given.1 q.by_index.2 j l.ensures.answer c.in-Some.is
     (replicate 256 0) l.ensures.written l.new.work l.ensures.front l.auto.work
     c.width-w.ensures.value c.horizon-last.ensures.value c.put_path.ensures
