@@ -5,33 +5,15 @@
 // written arrives.
 #![tactic(auto)]
 
-ghost use Rattle.std.specs.Prelude.{◌≤◌, IfOk, length};
-
 use std::io;
-use std::io::{Read, Write};
-
-// Reads until buf is full or the input ends, and gives how many bytes it put at the start of buf.
-fn read_full(rt: &impl Input, buf: &mut [u8]) -> io::Result<usize>
-    ensures { IfOk result (λ n. n ≤ length buf.new) }
-{
-    let mut reader = rt.reader();
-    let mut done = 0;
-    while done < buf.len() {
-        let n = reader.read(&mut buf[done..])?;
-        if n == 0 {
-            break;
-        }
-        done += n;
-    }
-    Ok(done)
-}
+use std::io::Write;
 
 fn main(rt: HostRuntime) -> io::Result<()> {
-    let mut sheet = [0u8; 4096];
-    let n = read_full(&rt, &mut sheet)?;
+    let mut buffer = [0u8; 4096];
+    let sheet = input::read(&rt, &mut buffer)?;
     let mut work = [0u32; 16384];
     let mut out = [0u16; 3072];
     let mut text = [0u8; 20480];
-    let r = round_text::write(&sheet[..n], &mut work, &mut out, &mut text);
+    let r = round_text::write(sheet, &mut work, &mut out, &mut text);
     io::writer(&rt).write_all(&text[..r])
 }

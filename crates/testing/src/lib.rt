@@ -1,76 +1,62 @@
-// What the test programs share: the numbers of a stored input, and lines of output.
+// What the test programs share: the values of a stored input one after the other, and lines of numbers.
 #![tactic(auto)]
 
-ghost use Rattle.std.specs.Prelude.{◌≡◌, ◌<◌, ◌≤◌, IfOk, length};
+ghost use Rattle.std.specs.Prelude.{◌≡◌, ◌/◌, ◌≤◌, ◌∷◌, ◌++◌, IfSome, length, take};
+ghost use Rattle.std.specs.Int.{from_le_bytes, w16};
 
 use std::io;
-use std::io::Read;
 
-fn byte_at(s: &[u8], k: usize) -> usize
-    ensures { result < 256 }
-{
-    if k < s.len() { wide(s[k]) } else { 0 }
+// A stored input: what is left of it.
+#[derive(Drop)]
+pub struct Stored<'a> {
+    pub rest: &'a [u8],
 }
 
-fn wide(x: u8) -> usize
-    ensures { result < 256 }
-{
-    x as usize
-}
+impl<'a> Stored<'a> {
+    // The next n bytes; none, and nothing is taken, where there are fewer.
+    pub fn bytes(&mut self, n: usize) -> Option<&'a [u8]>
+        ensures { IfSome result (λ bytes. (length bytes.now ≡ n) × (self.old.rest.now ≡ bytes.now ++ self.new.rest.now)) }
+    {
+        let (bytes, rest) = self.rest.split_at_checked(n)?;
+        self.rest = rest;
+        Some(bytes)
+    }
 
-// The two-byte value at k, low byte first; bytes past the end are 0.
-pub fn number_at(s: &[u8], k: usize) -> usize
-    ensures { result < 65536 }
-{
-    if k < s.len() {
-        byte_at(s, k) + 256 * byte_at(s, k + 1)
-    } else {
-        0
+    // The next byte.
+    pub fn byte(&mut self) -> Option<u8>
+        ensures { IfSome result (λ x. self.old.rest.now ≡ x ∷ self.new.rest.now) }
+    {
+        let (byte, rest) = self.rest.split_first()?;
+        self.rest = rest;
+        Some(*byte)
+    }
+
+    // The next two-byte value, low byte first.
+    pub fn word(&mut self) -> Option<u16>
+        ensures { IfSome result (λ x. (x ≡ from_le_bytes w16 (take 2 self.old.rest.now)) × (self.old.rest.now ≡ take 2 self.old.rest.now ++ self.new.rest.now) × (2 ≤ length self.old.rest.now)) }
+    {
+        let (bytes, rest) = self.rest.split_first_chunk::<2>()?;
+        self.rest = rest;
+        Some(u16::from_le_bytes(*bytes))
     }
 }
 
-// The first 4096 two-byte values. The length is said so that a caller can lend a part of the array.
-pub fn words(s: &[u8]) -> [u16; 4096]
-    ensures { 4096 ≡ length result }
+// The two-byte values of the bytes, written to the start of `space`; none where there are more than fit.
+pub fn words<'a>(bytes: &[u8], space: &'a mut [u16]) -> Option<&'a [u16]>
+    ensures { IfSome result (λ words. length words.now ≡ length bytes.now / 2) }
 {
-    let mut ws = [0u16; 4096];
-    for k in 0..4096usize {
-        ws[k] = (number_at(s, 2 * k) % 65536) as u16;
+    let words = space.get_mut(..bytes.len() / 2)?;
+    for (word, pair) in words.iter_mut().zip(bytes.chunks_exact(2)) {
+        *word = u16::from_le_bytes([pair[0], pair[1]]);
     }
-    ws
-}
-
-// Reads until buf is full or the input ends, and gives how many bytes it put at the start of buf.
-pub fn read_full(rt: &impl Input, buf: &mut [u8]) -> io::Result<usize>
-    ensures { IfOk result (λ n. n ≤ length buf.new) }
-{
-    let mut reader = rt.reader();
-    let mut done = 0;
-    while done < buf.len() {
-        let n = reader.read(&mut buf[done..])?;
-        if n == 0 {
-            break;
-        }
-        done += n;
-    }
-    Ok(done)
+    Some(words)
 }
 
 // One line of numbers.
 pub fn print_line(rt: &impl Print, numbers: &[usize]) -> io::Result<()> {
-    for k in 0..numbers.len() {
-        print_field(rt, k, numbers[k])?;
+    for (k, n) in numbers.iter().enumerate() {
+        let gap = if k == 0 { "" } else { " " };
+        print!(rt; "{gap}{n}")?;
     }
-    end_line(rt)
-}
-
-fn end_line(rt: &impl Print) -> io::Result<()> {
     println!(rt; "")
-}
-
-fn print_field(rt: &impl Print, k: usize, n: usize) -> io::Result<()> {
-    if 0 < k {
-        print!(rt; " ")?;
-    }
-    print!(rt; "{n}")
 }

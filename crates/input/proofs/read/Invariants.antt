@@ -1,9 +1,9 @@
 -- Each turn that goes on has read a byte at least.
 use Rattle.std.proofs.Common.{◌≤◌, ◌-◌, length}
-use Rattle.testing.proofs.read_full.Given as goal
+use Rattle.input.proofs.read.Given as goal
 
 abbrev pub invariant-loop-done : goal.invariant-loop-done
-invariant-loop-done g l = l.done ≤ length l.buf
+invariant-loop-done g l = l.done ≤ length l.buffer
 
 abbrev pub decreases-loop-done : goal.decreases-loop-done
-decreases-loop-done g l = length l.initial.buf - l.done
+decreases-loop-done g l = length l.initial.buffer - l.done

@@ -1,6 +1,0 @@
--- No more are counted than there were.
-use Rattle.std.proofs.Common.{◌≤◌}
-use Rattle.sheet_test.proofs.places_with.Given as goal
-
-abbrev pub invariant-loop-v : goal.invariant-loop-v
-invariant-loop-v l = l.count ≤ l.v
