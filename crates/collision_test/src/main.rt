@@ -2,51 +2,67 @@
 // a collision, its kind, t, i, j and its two places.
 #![tactic(auto)]
 
-use deck::{Collision, CollisionAnswer};
+ghost use Rattle.std.specs.Prelude.{◌<◌, OnSome, length};
+
+use deck::{Cause, Collision};
 use std::io;
+use testing::Stored;
+
+#[derive(Drop)]
+struct Case<'a> {
+    count: u8,
+    horizon: u8,
+    words: &'a [u8],
+}
 
 fn main(rt: HostRuntime) -> io::Result<()> {
     let mut buffer = [0u8; 262144];
-    let n = testing::read_full(&rt, &mut buffer)?;
-    cases(&rt, &buffer[..n])
-}
-
-fn cases(rt: &impl Print, s: &[u8]) -> io::Result<()> {
-    let mut at = 0;
-    while at < s.len() {
-        let count = testing::number_at(&s[at..], 2);
-        let end = at + 4 + 2 * count;
-        if s.len() < end {
-            return Ok(());
-        }
-        case(rt, &s[at..end], count)?;
-        at = end;
+    let mut input = Stored {
+        rest: input::read(&rt, &mut buffer)?,
+    };
+    while let Some(case) = next_case(&mut input) {
+        answer(&rt, case)?;
     }
     Ok(())
 }
 
-fn case(rt: &impl Print, t: &[u8], count: usize) -> io::Result<()> {
-    if t.len() < 4 {
-        return Ok(());
-    }
-    if 4096 < count {
-        return Ok(());
-    }
-    let ws = testing::words(&t[4..]);
-    report(rt, collision::first_collision(t[0], t[1], &ws[0..count]))
+// The next case; one that is cut off is left out.
+fn next_case<'a>(input: &mut Stored<'a>) -> Option<Case<'a>>
+    ensures { OnSome result (length input.new.rest.now < length input.old.rest.now) }
+{
+    let count = input.byte()?;
+    let horizon = input.byte()?;
+    let size = usize::from(input.word()?);
+    let words = input.bytes(2 * size)?;
+    Some(Case {
+        count,
+        horizon,
+        words,
+    })
 }
 
-fn report(rt: &impl Print, a: CollisionAnswer) -> io::Result<()> {
-    match a {
-        CollisionAnswer::Found(c) => found(rt, c),
-        CollisionAnswer::NoCollision => testing::print_line(rt, &[0; 8]),
-        CollisionAnswer::Refused(n) => testing::print_line(rt, &[n as usize, 0, 0, 0, 0, 0, 0, 0]),
+fn answer(rt: &impl Print, case: Case) -> io::Result<()> {
+    let mut space = [0u16; 4096];
+    match testing::words(case.words, &mut space) {
+        Some(words) => report(
+            rt,
+            collision::first_collision(case.count, case.horizon, words),
+        ),
+        None => Ok(()),
     }
 }
 
-fn found(rt: &impl Print, c: Collision) -> io::Result<()> {
-    match c {
-        Collision::Place { t, i, j, u } => testing::print_line(rt, &[0, 1, 0, t, i.0, j.0, u, 0]),
-        Collision::Move { t, i, j, u, v } => testing::print_line(rt, &[0, 1, 1, t, i.0, j.0, u, v]),
+fn report(rt: &impl Print, answer: Result<Option<Collision>, Cause>) -> io::Result<()> {
+    match answer {
+        Ok(Some(Collision::Place { t, i, j, u })) => {
+            testing::print_line(rt, &[0, 1, 0, t, i.0, j.0, u, 0])
+        }
+        Ok(Some(Collision::Move { t, i, j, u, v })) => {
+            testing::print_line(rt, &[0, 1, 1, t, i.0, j.0, u, v])
+        }
+        Ok(None) => testing::print_line(rt, &[0; 8]),
+        Err(cause) => {
+            testing::print_line(rt, &[usize::from(u8::from(cause)), 0, 0, 0, 0, 0, 0, 0])
+        }
     }
 }
