@@ -1,14 +1,8 @@
 -- Document 02, "A dark house": "Plan check says yes to it for no paths and a list of 255s", and to nothing else. Assumes nothing.
-use Prim.Native.Nat.{ℕ, ◌<◌}
-use mathlib.Core.Path.{◌≡◌, refl, sym, ap, ◌∙◌}
-use mathlib.Core.Logic.{◌↔◌}
-use mathlib.Core.List.{List, []}
-use native.Mathlib.Omega.{arith}
-use lib.ListN.{length}
+use Rattle.std.proofs.Common.{ℕ, ◌<◌, ◌≡◌, refl, sym, ap, ◌∙◌, ◌↔◌, List, [], arith, length, Some, Ok}
 use Rattle.deck.specs.Lists.{◌at◌, sum}
 use Rattle.deck.specs.Sheet.{read, sheet_cause}
 use Rattle.deck.specs.Calls.{check_call}
-use Rattle.deck.specs.declared.CheckAnswer.TheVariants.{Yes}
 use Rattle.meaning.proofs.Dark.{nil_of, only_plan}
 use Rattle.plan_check.specs.Meant.{PlanFor}
 use Rattle.plan_check.proofs.Calls.{meant}
@@ -35,5 +29,5 @@ module _ (tasks ws : List ℕ) (f : ℕ) where
         flowtime = sym h.2;
       }
 
-  pub dark_yes : (check_call [] tasks ws ≡ Yes f) ↔ EmptyPlan tasks ws f
+  pub dark_yes : (check_call [] tasks ws ≡ Ok (Some f)) ↔ EmptyPlan tasks ws f
   dark_yes = (λ e. plan_none ((meant [] tasks ws f).0 e), λ h. (meant [] tasks ws f).1 (none_plan h))

@@ -5,67 +5,55 @@ mod tasks;
 
 ghost use Rattle.std.specs.Prelude.{◌≡◌, suc, ◌*◌, ◌<◌, ◌≤◌, length, take, None};
 ghost use Rattle.deck.specs.Lists.{is_nil, pieces};
-ghost use Rattle.deck.specs.Sheet.{read, sheet_cause, width_of, count_of, horizon_of};
+ghost use Rattle.deck.specs.Sheet.{read, sheet_cause, count_of, horizon_of};
 ghost use Rattle.deck.specs.Collisions.{collisions};
 ghost use Rattle.deck.specs.Calls.{check_call};
 ghost use Rattle.deck.specs.Numbers.{check_numbers};
 ghost use Rattle.plan_check.specs.Answers.{flow_answer};
 ghost use Rattle.plan_check.specs.Meant.{Meant};
 
-use deck::{Carrier, CheckAnswer, CollisionAnswer, PathAnswer, causes};
+use deck::{Carrier, Cause};
+use sheet::AcceptedSheet;
+use tables::task_of;
 
 // No two of the m paths up to time h collide.
+#[tactic(auto, unfolding(deck::specs::Collisions::first_collision))]
 fn apart(m: usize, h: usize, paths: &[u16]) -> bool
     requires { (m * suc h ≤ length paths.now) × (h < 65536) }
     ensures { result ≡ is_nil (collisions m h (pieces m (suc h) paths.now)) }
 {
-    match collision_scan::first_among(m, h, paths) {
-        CollisionAnswer::NoCollision => true,
-        CollisionAnswer::Found(_) => false,
-        CollisionAnswer::Refused(_) => false,
-    }
+    collision_scan::first_among(m, h, paths).is_none()
 }
 
-// Yes with the flowtime if each carrier's words are a path for its task.
-fn flowtime(s: &[u8], w: usize, m: usize, h: usize, tasks: [u8; 12], paths: &[u16]) -> CheckAnswer
-    requires { (sheet_cause s.now ≡ None) × (w ≡ width_of s.now) × (m ≡ count_of s.now) × (h ≡ horizon_of s.now) × (length paths.now ≡ m * suc h) }
-    ensures { result ≡ flow_answer (read s.now) (take m tasks) (pieces m (suc h) paths.now) }
+// The flowtime if each carrier's words are a path for its task.
+fn flowtime(s: &[u8], tasks: &[u8; 12], paths: &[u16]) -> Option<usize>
+    requires { (sheet_cause s.now ≡ None) × (length paths.now ≡ count_of s.now * suc (horizon_of s.now)) }
+    ensures { result ≡ flow_answer (read s.now) (take (count_of s.now) tasks.now) (pieces (count_of s.now) (suc (horizon_of s.now)) paths.now) }
 {
-    let n = h + 1;
+    let n = sheet::horizon(s) + 1;
     let mut sum = 0;
-    for i in 0..m {
-        let j = tables::task_of(&tasks, Carrier(i));
-        match path_check::path_finish(s, w, h, Carrier(i), j, &paths[i * n..i * n + n]) {
-            PathAnswer::Found(t) => sum = sum + t,
-            PathAnswer::NoPath => return CheckAnswer::No,
-            PathAnswer::Refused(_) => return CheckAnswer::No,
-        }
+    for i in 0..sheet::count(s) {
+        let path = &paths[i * n..i * n + n];
+        let carrier = Carrier(i);
+        let task = task_of(tasks, carrier);
+        sum += path_check::path_finish(AcceptedSheet::new(s), carrier, task, path)?;
     }
-    CheckAnswer::Yes(sum)
+    Some(sum)
 }
 
 // Document 01's call, for any bytes, task list and words.
-pub fn check_plan(s: &[u8], tasks: [u8; 12], paths: &[u16]) -> CheckAnswer
+pub fn check_plan(s: &[u8], tasks: [u8; 12], paths: &[u16]) -> Result<Option<usize>, Cause>
     ensures call { check_numbers result ≡ check_numbers (check_call s.now tasks paths.now) }
     ensures meant { Meant s.now tasks paths.now result }
 {
-    let head = sheet::read(s);
-    if head.cause != 0 {
-        return CheckAnswer::Refused(head.cause);
-    }
-    let m = head.count;
-    let h = head.horizon;
+    sheet::check(s)?;
+    let m = sheet::count(s);
+    let h = sheet::horizon(s);
     if paths.len() != m * (h + 1) {
-        return CheckAnswer::Refused(causes::WRONG_LENGTH);
+        return Err(Cause::WrongLength);
     }
-    if !tasks::assigns(tasks, m) {
-        return CheckAnswer::No;
+    if !tasks::assigns(&tasks, m) || !tasks::ends(&tasks, m) || !apart(m, h, paths) {
+        return Ok(None);
     }
-    if !tasks::ends(tasks, m) {
-        return CheckAnswer::No;
-    }
-    if !apart(m, h, paths) {
-        return CheckAnswer::No;
-    }
-    flowtime(s, head.width, m, h, tasks, paths)
+    Ok(flowtime(s, &tasks, paths))
 }

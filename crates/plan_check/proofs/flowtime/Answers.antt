@@ -1,76 +1,46 @@
--- `plan_check::flowtime` meets its contract: at each carrier the answer is that of the carriers that are left. Assumes nothing.
-use Prim.Native.Nat.{ℕ, suc, ◌+◌, ◌*◌, ◌≤◌, ◌<◌}
-use mathlib.Core.List.{List}
-use mathlib.Core.Path.{◌≡◌, sym, ◌∙◌}
-use native.Mathlib.Numerals.{add-one}
-use native.Mathlib.Omega.{arith}
-use lib.ListN.{length, get_or, take}
-use lib.Seq.{length-take-le, get_or-take}
-use Rattle.std.specs.Prelude.{None}
-use Rattle.deck.specs.Sheet.{sheet_cause, count_of}
-use Rattle.collision_scan.specs.Words.{Row}
-use Rattle.collision_scan.proofs.Words.{row_within}
+-- At each carrier the answer is that of the carriers that are left. Assumes nothing.
+use Rattle.std.proofs.Common.{ℕ, suc, ◌+◌, ◌<◌, ◌≡◌, refl, sym, ◌∙◌, List, None, arith, length, get_or, take, length-take-le, get_or-take}
+use Rattle.deck.specs.Sheet.{sheet_cause, count_of, horizon_of}
 use Rattle.meaning.proofs.Dark.{most_carriers, short_horizon, with_carriers}
-use Rattle.plan_check.proofs.Flow.{flow_start, flow_over, flow_next, flow_none, flow_refused, path_small, pieces_length, piece_is, piece_long}
+use Rattle.plan_check.proofs.Flow.{flow_start, flow_over, flow_next, flow_none, path_small, pieces_length, piece_is}
 use Rattle.plan_check.proofs.flowtime.Goals as goal
 
-few : (s : List ℕ) (m : ℕ) → sheet_cause s ≡ None → m ≡ count_of s → m ≤ 12
-few s m ok e = omega (arith, most_carriers s ok)
-
-listed : (s tasks : List ℕ) (m : ℕ) → sheet_cause s ≡ None → m ≡ count_of s → length tasks ≡ 12 → length (take m tasks) ≡ m
-listed s tasks m ok e n = length-take-le m tasks (omega (arith, few s m ok e))
-
--- the words of a carrier are within the words
-row : (m h : ℕ) (ws : List ℕ) → length ws ≡ m * suc h → (i : ℕ) → i < m → Row ws (h + 1) i
-row m h ws e i l = row_within m h (h + 1) ws (add-one h) i (omega (arith, e)) l
+listed : (s tasks : List ℕ) → sheet_cause s ≡ None → length tasks ≡ 12 → length (take (count_of s) tasks) ≡ count_of s
+listed s tasks ok n = length-take-le (count_of s) tasks (omega (arith, most_carriers s ok))
 
 pub loop-i-init : goal.loop-i-init
-loop-i-init c =
-    (omega arith, flow_start _ _ _ _ c.requires.2 (listed c.args.s.now c.args.tasks c.args.m c.requires.0 c.requires.2 (omega arith)) (pieces_length _ _ _))
+loop-i-init c = (omega arith, flow_start _ _ _ _ refl (listed _ _ c.requires.0 c.told-tasks) (pieces_length _ _ _))
 
-pub task_of-j-requires : goal.task_of-j-requires
-task_of-j-requires c = omega (arith, few c.args.s.now c.args.m c.requires.0 c.requires.2)
+pub task_of-task-requires : goal.task_of-task-requires
+task_of-task-requires c = omega (arith, most_carriers _ c.requires.0)
 
-pub path_finish-requires : goal.path_finish-requires
-path_finish-requires c = (
-  with_carriers _ c.requires.0 (omega (arith, c.requires.2, c.loop-i-test.true)),
-  c.requires.1,
-  c.requires.3,
-  piece_long c.args.h (c.args.h + 1) c.loop-i.i c.args.paths.now (add-one _) (row c.args.m c.args.h c.args.paths.now c.requires.4 c.loop-i.i c.loop-i-test.true),
-)
+pub new-requires : goal.new-requires
+new-requires c = with_carriers _ c.requires.0 (omega arith)
 
 pub overflow_add-sum : goal.overflow_add-sum
 overflow_add-sum c =
-    omega (
-      arith,
-      few c.args.s.now c.args.m c.requires.0 c.requires.2,
-      path_small _ _ _ _ c.in-Found.t c.path_finish.ensures c.in-Found.is,
-      short_horizon _ c.requires.0,
-    )
+    omega (arith, most_carriers _ c.requires.0, short_horizon _ c.requires.0, path_small _ _ _ _ _ (rw c.new.ensures at c.path_finish.ensures) (c.in_ok-sum.was {u = tt}))
 
-pub returns-in-NoPath : goal.returns-in-NoPath
-returns-in-NoPath c =
-    let task_is : c.task_of-j.result.0 ≡ get_or (take c.args.m c.args.tasks) c.loop-i.i 0 =
-    c.task_of-j.ensures.0 ∙ sym (get_or-take c.args.m c.args.tasks c.loop-i.i 0 c.loop-i-test.true) in
-    sym (c.loop-i.invariant.1 ∙ flow_none _ _ _ _ c.requires.2 (listed c.args.s.now c.args.tasks c.args.m c.requires.0 c.requires.2 (omega arith)) (pieces_length _ _ _)
-    c.loop-i.sum c.loop-i.i c.loop-i-test.true task_is (piece_is _ _ _ _ _ (add-one _) c.loop-i-test.true) c.path_finish.ensures c.in-NoPath.is)
-
-pub returns-in-Refused : goal.returns-in-Refused
-returns-in-Refused c =
-    let task_is : c.task_of-j.result.0 ≡ get_or (take c.args.m c.args.tasks) c.loop-i.i 0 =
-    c.task_of-j.ensures.0 ∙ sym (get_or-take c.args.m c.args.tasks c.loop-i.i 0 c.loop-i-test.true) in
-    sym (c.loop-i.invariant.1 ∙ flow_refused _ _ _ _ c.requires.2 (listed c.args.s.now c.args.tasks c.args.m c.requires.0 c.requires.2 (omega arith)) (pieces_length _ _ _)
-    c.loop-i.sum c.loop-i.i c.loop-i-test.true task_is (piece_is _ _ _ _ _ (add-one _) c.loop-i-test.true) c.path_finish.ensures _ c.in-Refused.is)
+pub returns-in_err-sum : goal.returns-in_err-sum
+returns-in_err-sum c =
+    let l : c.loop-i.i < count_of c.args.s.now = omega arith in
+    let n : c.horizon-n.result + 1 ≡ suc (horizon_of c.args.s.now) = omega arith in
+    let task_is : c.task_of-task.result.0 ≡ get_or (take (count_of c.args.s.now) c.args.tasks.now) c.loop-i.i 0 =
+    c.task_of-task.ensures.0 ∙ sym (get_or-take _ _ c.loop-i.i 0 l) in
+    c.from_residual.ensures
+    ∙ sym (c.loop-i.invariant.1 ∙ flow_none _ _ _ _ refl (listed _ _ c.requires.0 c.told-tasks) (pieces_length _ _ _) c.loop-i.sum c.loop-i.i l task_is (piece_is _ _ _ _ _ n l)
+    (rw c.new.ensures at c.path_finish.ensures) (c.in_err-sum.was {u = tt}))
 
 pub loop-i-preserved : goal.loop-i-preserved
 loop-i-preserved c =
-    let task_is : c.task_of-j.result.0 ≡ get_or (take c.args.m c.args.tasks) c.loop-i.i 0 =
-    c.task_of-j.ensures.0 ∙ sym (get_or-take c.args.m c.args.tasks c.loop-i.i 0 c.loop-i-test.true) in (
-      omega (arith, path_small _ _ _ _ c.in-Found.t c.path_finish.ensures c.in-Found.is, short_horizon _ c.requires.0),
-      c.loop-i.invariant.1 ∙ flow_next _ _ _ _ c.requires.2 (listed c.args.s.now c.args.tasks c.args.m c.requires.0 c.requires.2 (omega arith)) (pieces_length _ _ _)
-          c.loop-i.sum c.loop-i.i c.loop-i-test.true task_is (piece_is _ _ _ _ _ (add-one _) c.loop-i-test.true) c.path_finish.ensures _ c.in-Found.is,
+    let l : c.loop-i.i < count_of c.args.s.now = omega arith in
+    let n : c.horizon-n.result + 1 ≡ suc (horizon_of c.args.s.now) = omega arith in
+    let task_is : c.task_of-task.result.0 ≡ get_or (take (count_of c.args.s.now) c.args.tasks.now) c.loop-i.i 0 =
+    c.task_of-task.ensures.0 ∙ sym (get_or-take _ _ c.loop-i.i 0 l) in (
+      omega (arith, short_horizon _ c.requires.0, path_small _ _ _ _ _ (rw c.new.ensures at c.path_finish.ensures) (c.in_ok-sum.was {u = tt})),
+      c.loop-i.invariant.1 ∙ flow_next _ _ _ _ refl (listed _ _ c.requires.0 c.told-tasks) (pieces_length _ _ _) c.loop-i.sum c.loop-i.i l task_is (piece_is _ _ _ _ _ n l)
+          (rw c.new.ensures at c.path_finish.ensures) _ (c.in_ok-sum.was {u = tt}),
     )
 
 pub returns : goal.returns
-returns c =
-    sym (c.loop-i.invariant.1 ∙ flow_over _ _ _ _ c.requires.2 (listed c.args.s.now c.args.tasks c.args.m c.requires.0 c.requires.2 (omega arith)) (pieces_length _ _ _) _ _ c.loop-i-test.false)
+returns c = sym (c.loop-i.invariant.1 ∙ flow_over _ _ _ _ refl (listed _ _ c.requires.0 c.told-tasks) (pieces_length _ _ _) _ _ (omega arith))

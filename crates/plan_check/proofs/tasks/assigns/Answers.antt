@@ -1,32 +1,19 @@
--- `plan_check::tasks::assigns` meets its contract: at each index the test of an assignment is that of what is left. Assumes nothing.
-use Prim.Native.Nat.{◌≤◌}
-use mathlib.Core.Path.{sym, ◌∙◌}
-use native.Mathlib.Omega.{arith}
-use lib.ListN.{length}
-use Rattle.plan_check.proofs.TaskLists.{assigns_start, assigns_over, assigns_large, assigns_again, assigns_next}
+-- The first m numbers are below m, and differ. Assumes nothing.
+use Rattle.std.proofs.Common.{rules, ◌≡◌, ltb, take, arith}
+use Rattle.std.proofs.lemmas.Iterator.{YieldsList-from_slice}
+use Rattle.deck.specs.Lists.{all}
+use Rattle.meaning.proofs.Iterators.{all_yielded}
+use Rattle.plan_check.proofs.TaskLists.{assigns_is}
 use Rattle.plan_check.proofs.tasks.assigns.Goals as goal
 
-pub loop-i-init : goal.loop-i-init
-loop-i-init c =
-    let long : c.args.m ≤ length c.args.tasks = omega arith in
-    assigns_start _ _ long
+pub returns-then-all : goal.returns-then-all
+returns-then-all c =
+    let below : c.all.result ≡ all (λ j. ltb j c.args.m) (take c.args.m c.args.tasks.now) =
+    all_yielded (λ j. ltb j c.args.m) _ _ _ c.all.ensures.ran (YieldsList-from_slice (take c.args.m c.args.tasks.now) cc) (λ x b q k. search rules) in
+    rw (assigns_is c.args.m c.args.tasks.now (omega arith), ← below, c.if-all.true) c.all_differ.ensures
 
-pub returns-then-m-j : goal.returns-then-m-j
-returns-then-m-j c =
-    let long : c.args.m ≤ length c.args.tasks = omega arith in
-    sym (c.loop-i.invariant ∙ assigns_large _ _ long _ c.loop-i-test.true (omega (arith, c.task_of-j.ensures.0)))
-
-pub returns-then-again : goal.returns-then-again
-returns-then-again c =
-    let long : c.args.m ≤ length c.args.tasks = omega arith in
-    sym (c.loop-i.invariant ∙ assigns_again _ _ long _ c.loop-i-test.true (omega (arith, c.task_of-j.ensures.0)) (sym c.again.ensures ∙ c.if-again.true))
-
-pub loop-i-preserved : goal.loop-i-preserved
-loop-i-preserved c =
-    let long : c.args.m ≤ length c.args.tasks = omega arith in
-    c.loop-i.invariant ∙ assigns_next _ _ long _ c.loop-i-test.true (omega (arith, c.task_of-j.ensures.0)) (sym c.again.ensures ∙ c.if-again.false)
-
-pub returns : goal.returns
-returns c =
-    let long : c.args.m ≤ length c.args.tasks = omega arith in
-    sym (c.loop-i.invariant ∙ assigns_over _ _ long _ c.loop-i-test.false)
+pub returns-else-all : goal.returns-else-all
+returns-else-all c =
+    let below : c.all.result ≡ all (λ j. ltb j c.args.m) (take c.args.m c.args.tasks.now) =
+    all_yielded (λ j. ltb j c.args.m) _ _ _ c.all.ensures.ran (YieldsList-from_slice (take c.args.m c.args.tasks.now) cc) (λ x b q k. search rules) in
+    rw (assigns_is c.args.m c.args.tasks.now (omega arith), ← below, c.if-all.false)
