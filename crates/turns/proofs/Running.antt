@@ -4,13 +4,13 @@ use Prim.Native.Nat.{ℕ, suc, ◌+◌, ◌-◌, ◌<◌, ◌≤◌}
 use mathlib.Core.Path.{◌≡◌, sym, ap, subst, ◌∙◌}
 use mathlib.Core.List.{List, [], ◌∷◌}
 use mathlib.Core.Bool.{Bool, true, false}
-use Rattle.std.specs.Prelude.{Option, None, Some}
+use Rattle.std.proofs.Common.{Option, None, Some, ControlFlow, Continue, Break}
 use native.Mathlib.Numerals.{add-one}
 use native.Mathlib.Omega.{arith}
 use lib.ListN.{length}
 use lib.Dec.{leb}
 use Rattle.deck.specs.Sheet.{read, cause}
-use Rattle.deck.specs.Search.{Problem, Node, Selected, Answer, Turn, done, more, no_plan, spent, root_of, to_make, cheapest, extend, expand, turn_with, turn, onward, run, search_from, searched}
+use Rattle.deck.specs.Search.{Problem, Node, Selected, Answer, Turn, done, more, root_of, to_make, cheapest, extend, expand, turn_with, turn, onward, run, search_from, searched}
 use Rattle.deck.specs.Planner.{problem, plan_for}
 use Rattle.deck.specs.declared.Constraint.{Constraint}
 use Rattle.meaning.proofs.Fuel.{plan_answers}
@@ -19,9 +19,9 @@ use Rattle.optimal.specs.Deck.{rules}
 use Rattle.optimal.proofs.Invariant.{TurnRight, turn_right, start_inv}
 use Rattle.optimal.proofs.Select.{cheapest_picks}
 use Rattle.expand.specs.Held.{Held}
-use Rattle.turns.specs.Turns.{Turning, PlanAt, TurnedTo}
-use Rattle.turns.specs.declared.Turned.{Turned}
-use Rattle.turns.specs.declared.Turned.TheVariants.{More, Plan, NoPlan, Spent}
+use Rattle.expand.specs.declared.Made.{Made}
+use Rattle.turns.specs.Turns.{Turning, EndedWith, TurnedTo}
+use Rattle.turns.specs.declared.End.{End}
 use Rattle.turns.proofs.Turning.{St, deck_laws}
 
 -- after k turns a state is held that comes to the answer with the turns that are left
@@ -68,13 +68,13 @@ module _ (s : List ℕ) (ok : cause s ≡ None) where
   going_ends work made latest k g e = let n : None ≡ Some (plan_for (read s)) = g.comes 0 (omega arith) in let z : ◌≡◌ {A = ℕ} 0 1 = cc in omega arith
 
   -- one turn
-  module _ (work : List ℕ) (made latest k : ℕ) (going : Going s work made latest k) (left : k < suc (read s).limit) (after : List ℕ) (r : Turned)
-      (says : (st : St) (k : ℕ) → Turning (read s) work made latest k st → TurnedTo (read s) after made r (turn (problem (read s)) (read s).limit cheapest st)) where
+  module _ (work : List ℕ) (made latest k : ℕ) (going : Going s work made latest k) (left : k < suc (read s).limit) (after : List ℕ) where
     abbrev next : Turn (List ℕ) Constraint
     next = turn (problem (read s)) (read s).limit cheapest going.state
 
-    turned : (x : Turned) → r ≡ x → TurnedTo (read s) after made x next
-    turned x e = subst (λ y. TurnedTo (read s) after made y next) e (says going.state k going.turning)
+    -- what a turn says of each state that is held
+    abbrev pub Says : ControlFlow End Made → Type 0
+    Says r = (st : St) (k : ℕ) → Turning (read s) work made latest k st → TurnedTo (read s) after r (turn (problem (read s)) (read s).limit cheapest st)
 
     comes_next : (f : ℕ) → f + suc k ≡ suc (read s).limit → onward (problem (read s)) (read s).limit cheapest (run (problem (read s)) (read s).limit cheapest f) next ≡ Some (plan_for (read s))
     comes_next f e = going.comes (suc f) (omega arith)
@@ -86,9 +86,9 @@ module _ (s : List ℕ) (ok : cause s ≡ None) where
         let c : Some a ≡ Some (plan_for (read s)) = sym (ap (onward (problem (read s)) (read s).limit cheapest (run (problem (read s)) (read s).limit cheapest f)) e) ∙ comes_next f (omega arith) in
         cc
 
-    pub going_more : (m l : ℕ) → r ≡ More m l → Going s after m l (k + 1)
-    going_more m l e =
-        let t = turned (More m l) e in
+    pub going_more : (m : Made) → Says (Continue m) → Going s after m.nodes m.latest (k + 1)
+    going_more m says =
+        let t = says going.state k going.turning in
         rw (add-one k)
         (record {
           state = t.0;
@@ -100,18 +100,12 @@ module _ (s : List ℕ) (ok : cause s ≡ None) where
           comes = λ f z. sym (ap (onward (problem (read s)) (read s).limit cheapest (run (problem (read s)) (read s).limit cheapest f)) t.1) ∙ comes_next f z;
         })
 
-    pub more_fewer : (m l : ℕ) → r ≡ More m l → made ≤ m
-    more_fewer m l e =
-        let t = turned (More m l) e in
+    pub more_fewer : (m : Made) → Says (Continue m) → made ≤ m.nodes
+    more_fewer m says =
+        let t = says going.state k going.turning in
         omega (arith, no_fewer (problem (read s)) (read s).limit going.state t.0 t.1, going.turning.0.number, t.2.number)
 
-    pub going_plan : (n cost : ℕ) → r ≡ Plan n cost → PlanAt (read s) after made n cost (plan_for (read s))
-    going_plan n cost e =
-        let t = turned (Plan n cost) e in
-        subst (PlanAt (read s) after made n cost) (sym (ends t.0 t.1)) t.2
-
-    pub going_none : r ≡ NoPlan → plan_for (read s) ≡ no_plan made
-    going_none e = ends (no_plan made) (turned NoPlan e)
-
-    pub going_spent : (bound : ℕ) → r ≡ Spent bound → plan_for (read s) ≡ spent (read s).limit bound
-    going_spent bound e = ends (spent (read s).limit bound) (turned (Spent bound) e)
+    pub going_ended : (end : End) → Says (Break end) → EndedWith (read s) after end (plan_for (read s))
+    going_ended end says =
+        let t = says going.state k going.turning in
+        subst (EndedWith (read s) after end) (sym (ends t.0 t.1)) t.2

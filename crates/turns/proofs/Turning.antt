@@ -1,22 +1,20 @@
 -- One turn on the workspace is the definition's turn: the node taken, its collision, the workspace once it is closed, and what each
 -- way out comes to. Assumes nothing.
 use Prim.Native.Nat.{ℕ, suc, ◌+◌, ◌*◌, ◌<◌, ◌≤◌}
-use mathlib.Core.Path.{◌≡◌, refl, sym, ap, ap₂, subst, ◌∙◌}
+use mathlib.Core.Path.{◌≡◌, refl, sym, ap, subst, ◌∙◌}
 use mathlib.Core.List.{List, [], ◌++◌}
-use Rattle.std.specs.Prelude.{Option, None, Some}
+use Rattle.std.proofs.Common.{Option, None, Some, ControlFlow, Break}
 use native.Mathlib.Omega.{arith}
 use native.Mathlib.Numerals.{add-one}
 use lib.ListN.{length, get_or, drop, length-set}
 use Rattle.deck.specs.Lists.{flat, pieces}
 use Rattle.deck.specs.Sheet.{Sheet, read, cause}
-use Rattle.deck.specs.Search.{State, Selected, Turn, done, no_plan, plan, rest_after, selected, cheapest, expand, turn_with, turn}
+use Rattle.deck.specs.Search.{State, Selected, done, no_plan, plan, rest_after, selected, cheapest, expand, turn_with, turn}
 use Rattle.deck.specs.Planner.{problem, sides, sides_of}
 use Rattle.deck.specs.Collisions.{first_collision}
-use Rattle.deck.specs.Calls.{overwrite, workspace_for, collision_found}
+use Rattle.deck.specs.Calls.{overwrite, workspace_for}
 use Rattle.deck.specs.declared.Constraint.{Constraint}
 use Rattle.deck.specs.declared.Collision.{Collision}
-use Rattle.deck.specs.declared.CollisionAnswer.{CollisionAnswer}
-use Rattle.deck.specs.declared.CollisionAnswer.TheVariants.{Found as CollisionFound}
 use Rattle.meaning.proofs.Lists.{length_below, get_or_below}
 use Rattle.meaning.proofs.Accepted.{accepted_start, accepted_horizon}
 use Rattle.meaning.specs.Making.{make_each}
@@ -30,20 +28,18 @@ use Rattle.optimal.proofs.Select.{cheapest_picks}
 use Rattle.optimal.proofs.Written.{pieces_flat}
 use Rattle.pack.proofs.Trips.{length_unpack}
 use Rattle.records.specs.Record.{fields_at, packed_in, closed_key, with_key}
-use Rattle.nodes.specs.Nodes.{path_in, paths_in, node_at, opened_at, Lows, Cheapest, InRange as Inside}
+use Rattle.nodes.specs.Nodes.{path_in, paths_in, node_at, opened_at, Lows, Cheapest}
 use Rattle.meaning.specs.Constraints.{InRange}
 use Rattle.nodes.specs.Stored.{Fits, Stored}
-use Rattle.nodes.specs.declared.Pick.{Pick}
-use Rattle.nodes.specs.declared.Pick.TheVariants.{Nothing, Open}
+use Rattle.nodes.specs.declared.Open.{Open}
 use Rattle.nodes.proofs.Kept.{close_stored, close_nodes, close_records}
 use Rattle.nodes.proofs.Readers.{accepted_fits, paths_read, tasks_read}
 use Rattle.roots.proofs.Begun.{slots_kept_records}
-use Rattle.expand.specs.Held.{Given, Held, NodeAt, Nodes, Grew}
+use Rattle.expand.specs.Held.{Given, Held, NodeAt, Nodes}
 use Rattle.turns.specs.Turns.{StartsOf, Turning, TurnedTo}
-use Rattle.turns.specs.declared.Turned.{Turned}
-use Rattle.turns.specs.declared.Turned.TheVariants.{More, Plan, Spent}
-use Rattle.expand.specs.declared.Grown.{Grown}
-use Rattle.expand.specs.declared.Grown.TheVariants.{Made, Spent as GrownSpent}
+use Rattle.turns.specs.declared.End.{End}
+use Rattle.turns.specs.declared.End.TheVariants.{Plan, NoPlan}
+use Rattle.expand.specs.declared.Made.{Made}
 
 -- THE COLLISION of the paths as they are written
 paths_back : (w last m : ℕ) (starts : List ℕ) (fs : List (List ℕ)) (rest : List ℕ)
@@ -57,25 +53,12 @@ paths_back w last m starts fs rest =
     ∙ add-one last))
 
 pub node_collision : (d : Sheet) (work : List ℕ) (n w last m : ℕ) (starts : List ℕ) → w ≡ d.width → last ≡ d.horizon → m ≡ d.count → StartsOf d starts
-    → (out words : List ℕ) (r : CollisionAnswer) → words ≡ overwrite (flat (paths_in w last starts m (fields_at work n))) out
-    → r ≡ collision_found (first_collision m last (pieces m (suc last) words))
-    → r ≡ collision_found (first_collision d.count d.horizon (node_at d work n).paths)
+    → (out words : List ℕ) (r : Option Collision) → words ≡ overwrite (flat (paths_in w last starts m (fields_at work n))) out
+    → r ≡ first_collision m last (pieces m (suc last) words) → r ≡ first_collision d.count d.horizon (node_at d work n).paths
 node_collision d work n w last m starts ew el em es out words r written e =
     let rest : List ℕ = drop (length (flat (paths_in w last starts m (fields_at work n)))) out in
     let same : pieces m (suc last) words ≡ (node_at d work n).paths = ap (pieces m (suc last)) written ∙ paths_back w last m starts (fields_at work n) rest ∙ paths_read d work n w last m starts ew el em es in
     e ∙ rw (same, em, el) refl
-
--- what the answer says of the collision
-pub found_is : (o : Option Collision) (c : Collision) → CollisionFound c ≡ collision_found o → o ≡ Some c
-unfolding collision_found
-found_is None c e = cc
-found_is (Some x) c e = cc
-
--- an answer that is no collision found
-pub none_is : (keys : CollisionAnswer → Type 0) → ((c : Collision) → keys (CollisionFound c) → ⊥) → (o : Option Collision) (r : CollisionAnswer) → r ≡ collision_found o → keys r → o ≡ None
-unfolding collision_found
-none_is keys never None r e k = refl
-none_is keys never (Some c) r e k = absurd (never c (subst keys e k))
 
 -- the two constraints of the first collision
 collision_is : (d : Sheet) (ps : List (List ℕ)) (o : Option Collision) → first_collision d.count d.horizon ps ≡ o → (problem d).collision ps ≡ sides_of o
@@ -90,28 +73,12 @@ no_sides : sides_of None ≡ None
 unfolding sides_of
 no_sides = refl
 
--- THE EXPANSION, with the constraints as they are handed over
-module _ (d : Sheet) (before work : List ℕ) (made cost n : ℕ) (opened : Nodes) (rest : List (List ℕ)) where
-  -- the definition's
-  abbrev pub makes : Constraint × Constraint → Turn (List ℕ) Constraint
-  makes p = make_each (problem d) d.limit cost (node_at d before n) p rest (record { opened = opened; made = made; rest = rest_after (problem d) (node_at d before n).root rest })
-
-  module _ (c : Collision) (x y : Constraint) (first : x ≡ (sides c).0) (second : y ≡ (sides c).1) (r : Grown) (grew : Grew d work cost r (makes (x, y))) where
-    handed : Grew d work cost r (makes (sides c))
-    handed = subst (λ p. Grew d work cost r (makes p)) (ap₂ (λ a b. (a, b)) first second) grew
-
-    pub grew_more : (k l : ℕ) → r ≡ Made k l → TurnedTo d work made (More k l) (makes (sides c))
-    grew_more k l e = subst (λ g. Grew d work cost g (makes (sides c))) e handed
-
-    pub grew_spent : r ≡ GrownSpent → TurnedTo d work made (Spent cost) (makes (sides c))
-    grew_spent e = subst (λ g. Grew d work cost g (makes (sides c))) e handed
-
 -- THE TURN
 abbrev pub St : Type 0
 St = State (List ℕ) Constraint
 
 -- no node is open
-pub turn_nothing : (d : Sheet) (work : List ℕ) (made latest k : ℕ) (st : St) → Turning d work made latest k st → Cheapest d d.limit work made Nothing
+turn_nothing : (d : Sheet) (work : List ℕ) (made latest k : ℕ) (st : St) → Turning d work made latest k st → Cheapest d d.limit work made None
     → turn (problem d) d.limit cheapest st ≡ done (no_plan made)
 turn_nothing d work made latest k st (held, inv) e = rw (← held.opened, e, held.number)
 
@@ -125,7 +92,13 @@ module _ (s : List ℕ) (ok : cause s ≡ None) where
 
   -- node n is taken
   module _ (work : List ℕ) (made latest k : ℕ) (st : St) (turning : Turning (read s) work made latest k st) (room : 512 * (read s).limit + 4096 ≤ length work)
-      (n cost : ℕ) (inside : n < made) (taken : Cheapest (read s) (read s).limit work made (Open n cost)) where
+      (node : Open) (inside : node.n < made) (taken : Cheapest (read s) (read s).limit work made (Some node)) where
+    abbrev n : ℕ
+    n = node.n
+
+    abbrev cost : ℕ
+    cost = node.cost
+
     abbrev after : List ℕ
     after = with_key (read s).limit n closed_key work
 
@@ -172,7 +145,7 @@ module _ (s : List ℕ) (ok : cause s ≡ None) where
 
     -- without one it is the plan
     pub turn_plan : first_collision (read s).count (read s).horizon (node_at (read s) after n).paths ≡ None
-        → TurnedTo (read s) after made (Plan n cost) (turn (problem (read s)) (read s).limit cheapest st)
+        → TurnedTo (read s) after (Break (Plan node made)) (turn (problem (read s)) (read s).limit cheapest st)
     turn_plan first = (
       plan (node_at (read s) after n).tasks (node_at (read s) after n).paths cost made cost,
       turn_is None first ∙ rw (no_sides, same_node, taken.0, held.number),
@@ -211,57 +184,63 @@ given_kept s mask t work bounds after g e = record { accepted = g.accepted; mask
 pub lows_limit : {limit made : ℕ} {work lows : List ℕ} (n : ℕ) → limit ≡ n → Lows limit work made lows → Lows n work made lows
 lows_limit {limit} {made} {work} {lows} n e w = subst (λ x. Lows x work made lows) e w
 
--- WHAT THE CALLS OF A TURN SAY: node n is the one that is taken, and `closed` is the workspace once it is closed
-pub record Took (s work closed : List ℕ) (made n cost : ℕ) : Type 0 where
-  pub inside : n < made
-  pub taken : Cheapest (read s) (read s).limit work made (Open n cost)
-  pub is : closed ≡ with_key (read s).limit n closed_key work
+-- WHAT THE CALLS OF A TURN SAY: this node is taken, and `closed` is the workspace once it is closed
+pub record Took (s work closed : List ℕ) (made : ℕ) (node : Open) : Type 0 where
+  pub inside : node.n < made
+  pub taken : Cheapest (read s) (read s).limit work made (Some node)
+  pub is : closed ≡ with_key (read s).limit node.n closed_key work
 
-module _ (s : List ℕ) (ok : cause s ≡ None) (work : List ℕ) (made latest k : ℕ) (st : St) (turning : Turning (read s) work made latest k st) where
-  -- by the pick
-  pub pick_is : (limit : ℕ) → limit ≡ (read s).limit → (r x : Pick) → ((d : Sheet) → Fits d → Stored d limit work made → Cheapest d limit work made r) → r ≡ x
-      → Cheapest (read s) (read s).limit work made x
-  pick_is limit l r x says e = subst (Cheapest (read s) (read s).limit work made) e (subst (λ b. Stored (read s) b work made → Cheapest (read s) b work made r) l (says (read s) (accepted_fits s ok)) turning.0.stored)
+module _ (s : List ℕ) (ok : cause s ≡ None) {work : List ℕ} {made latest k : ℕ} {st : St} (turning : Turning (read s) work made latest k st) where
+  -- by the choice
+  module _ {limit : ℕ} (el : limit ≡ (read s).limit) where
+    chosen_is : (r : Option Open) → ((d : Sheet) → Fits d → Stored d limit work made → Cheapest d limit work made r) → Cheapest (read s) (read s).limit work made r
+    chosen_is r says = subst (λ b. Stored (read s) b work made → Cheapest (read s) b work made r) el (says (read s) (accepted_fits s ok)) turning.0.stored
 
-  -- and once the node is closed
-  pub closed_is_taken : (limit : ℕ) → limit ≡ (read s).limit → (r : Pick) → ((d : Sheet) → Fits d → Stored d limit work made → Cheapest d limit work made r) → Inside made r
-      → (n cost : ℕ) → r ≡ Open n cost → (closed : List ℕ) → closed ≡ with_key limit n closed_key work → Took s work closed made n cost
-  closed_is_taken limit l r says inside n cost e closed is =
-      record {
-        inside = subst (Inside made) e inside;
-        taken = pick_is limit l r (Open n cost) says e;
-        is = is ∙ ap (λ (b : ℕ). with_key b n closed_key work) l;
-      }
+    pub took_none : ((d : Sheet) → Fits d → Stored d limit work made → Cheapest d limit work made None)
+        → TurnedTo (read s) work (Break (NoPlan made)) (turn (problem (read s)) (read s).limit cheapest st)
+    took_none says = (no_plan made, turn_nothing (read s) work made latest k st turning (chosen_is None says), refl)
 
-  module _ (closed : List ℕ) (n cost : ℕ) (took : Took s work closed made n cost) (room : workspace_for (read s) ≤ length work) where
-    pub took_given : (mask t bounds : List ℕ) → Given s mask t work bounds → Given s mask t closed bounds
-    took_given mask t bounds g = given_kept s mask t work bounds closed g (ap length took.is ∙ length-set work (512 * (read s).limit + n) closed_key)
+    -- and once the node is closed
+    pub closed_is_taken : (node : Open) → ((d : Sheet) → Fits d → Stored d limit work made → Cheapest d limit work made (Some node)) → node.n < made
+        → {closed : List ℕ} → closed ≡ with_key limit node.n closed_key work → Took s work closed made node
+    closed_is_taken node says inside is =
+        record {
+          inside = inside;
+          taken = chosen_is (Some node) says;
+          is = is ∙ ap (λ (b : ℕ). with_key b node.n closed_key work) el;
+        }
+
+  module _ {closed : List ℕ} {node : Open} (took : Took s work closed made node) (room : workspace_for (read s) ≤ length work) where
+    pub took_given : {mask t bounds : List ℕ} → Given s mask t work bounds → Given s mask t closed bounds
+    took_given {mask} {t} {bounds} g = given_kept s mask t work bounds closed g (ap length took.is ∙ length-set work (512 * (read s).limit + node.n) closed_key)
 
     pub took_held : Held (read s) closed made latest (record { opened = opened_at (read s) (read s).limit closed made; made = made; rest = st.rest })
-    took_held = rw took.is (closed_held s ok work made latest k st turning (room_of s ok work room) n cost took.inside took.taken)
+    took_held = rw took.is (closed_held s ok work made latest k st turning (room_of s ok work room) node took.inside took.taken)
 
-    pub took_node_at : NodeAt (read s) closed n
-    took_node_at = rw took.is (closed_node_at s ok work made latest k st turning (room_of s ok work room) n cost took.inside took.taken)
+    pub took_node_at : NodeAt (read s) closed node.n
+    took_node_at = rw took.is (closed_node_at s ok work made latest k st turning (room_of s ok work room) node took.inside took.taken)
 
     -- its first collision
     abbrev first : Option Collision
-    first = first_collision (read s).count (read s).horizon (node_at (read s) closed n).paths
+    first = first_collision (read s).count (read s).horizon (node_at (read s) closed node.n).paths
 
-    same_first : (o : Option Collision) → first ≡ o → first_collision (read s).count (read s).horizon (node_at (read s) (with_key (read s).limit n closed_key work) n).paths ≡ o
-    same_first o e = ap (λ w. first_collision (read s).count (read s).horizon (node_at (read s) w n).paths) (sym took.is) ∙ e
+    same_first : (o : Option Collision) → first ≡ o → first_collision (read s).count (read s).horizon (node_at (read s) (with_key (read s).limit node.n closed_key work) node.n).paths ≡ o
+    same_first o e = ap (λ w. first_collision (read s).count (read s).horizon (node_at (read s) w node.n).paths) (sym took.is) ∙ e
 
-    pub took_plan : first ≡ None → TurnedTo (read s) closed made (Plan n cost) (turn (problem (read s)) (read s).limit cheapest st)
-    took_plan e = rw took.is (turn_plan s ok work made latest k st turning (room_of s ok work room) n cost took.inside took.taken (same_first None e))
+    pub took_plan : None ≡ first → TurnedTo (read s) closed (Break (Plan node made)) (turn (problem (read s)) (read s).limit cheapest st)
+    took_plan e = rw took.is (turn_plan s ok work made latest k st turning (room_of s ok work room) node took.inside took.taken (same_first None (sym e)))
 
-    module _ (c : Collision) (e : first ≡ Some c) where
+    module _ {c : Collision} (e : Some c ≡ first) where
       pub took_good : InRange (read s) (sides c).0 × InRange (read s) (sides c).1
-      took_good = sides_good s ok work made latest k st turning (room_of s ok work room) n cost took.inside took.taken c (same_first (Some c) e)
+      took_good = sides_good s ok work made latest k st turning (room_of s ok work room) node took.inside took.taken c (same_first (Some c) (sym e))
 
-      pub took_turned : (after : List ℕ) (r : Turned)
+      pub took_turned : (after : List ℕ) (r : ControlFlow End Made)
           → ((opened : Nodes) (rest : List (List ℕ)) → Held (read s) closed made latest (record { opened = opened; made = made; rest = rest })
-          → TurnedTo (read s) after made r (makes (read s) closed after made cost n opened rest (sides c)))
-          → TurnedTo (read s) after made r (turn (problem (read s)) (read s).limit cheapest st)
+          → TurnedTo (read s) after r
+          (make_each (problem (read s)) (read s).limit node.cost (node_at (read s) closed node.n) (sides c) rest
+          (record { opened = opened; made = made; rest = rest_after (problem (read s)) (node_at (read s) closed node.n).root rest })))
+          → TurnedTo (read s) after r (turn (problem (read s)) (read s).limit cheapest st)
       took_turned after r says =
-          subst (TurnedTo (read s) after made r)
-          (sym (turn_makes s ok work made latest k st turning (room_of s ok work room) n cost took.inside took.taken c (same_first (Some c) e) ∙ rw took.is refl))
+          subst (TurnedTo (read s) after r)
+          (sym (turn_makes s ok work made latest k st turning (room_of s ok work room) node took.inside took.taken c (same_first (Some c) (sym e)) ∙ rw took.is refl))
           (says (opened_at (read s) (read s).limit closed made) st.rest took_held)

@@ -1,5 +1,7 @@
 -- What a turn and the end of the search on the workspace are to the definition's. Assumes nothing.
 use Rattle.std.specs.Prelude.{ℕ, ◌<◌, ◌≡◌, List, get_or}
+use Rattle.std.specs.declared.ops.ControlFlow.{ControlFlow}
+use Rattle.std.specs.declared.ops.ControlFlow.TheVariants.{Continue, Break}
 use Rattle.deck.specs.Sheet.{Sheet}
 use Rattle.deck.specs.Search.{State, Turn, done, more, Answer, plan, no_plan, spent}
 use Rattle.deck.specs.Planner.{problem}
@@ -10,10 +12,9 @@ use Rattle.optimal.specs.Deck.{rules}
 use Rattle.records.specs.Record.{fields_at, tasks_in, bytes}
 use Rattle.nodes.specs.Nodes.{node_at}
 use Rattle.expand.specs.Held.{Held}
-use Rattle.turns.specs.declared.Turned.{Turned}
-use Rattle.turns.specs.declared.Turned.TheVariants.{More, Plan, NoPlan, Spent}
+use Rattle.expand.specs.declared.Made.{Made}
 use Rattle.turns.specs.declared.End.{End}
-use Rattle.turns.specs.declared.End.TheVariants.{Plan as EndPlan, NoPlan as EndNoPlan, Spent as EndSpent}
+use Rattle.turns.specs.declared.End.TheVariants.{Plan, NoPlan, Spent}
 
 -- the starts of the sheet's carriers
 abbrev pub StartsOf : Sheet → List ℕ → Type 0
@@ -29,15 +30,13 @@ pub record PlanAt (d : Sheet) (work : List ℕ) (made n cost : ℕ) (a : Answer 
   pub answer : a ≡ plan (node_at d work n).tasks (node_at d work n).paths cost made cost
   pub tasks : bytes (tasks_in (fields_at work n)) ≡ task_list (node_at d work n).tasks
 
--- what a turn on the workspace comes to is the definition's turn t
-abbrev pub TurnedTo : Sheet → List ℕ → ℕ → Turned → Turn (List ℕ) Constraint → Type 0
-TurnedTo d work made (More m l) t = (st : State (List ℕ) Constraint) × (t ≡ more st) × Held d work m l st
-TurnedTo d work made (Plan n cost) t = (a : Answer (List ℕ)) × (t ≡ done a) × PlanAt d work made n cost a
-TurnedTo d work made NoPlan t = t ≡ done (no_plan made)
-TurnedTo d work made (Spent bound) t = t ≡ done (spent d.limit bound)
-
 -- the end is the answer a
 abbrev pub EndedWith : Sheet → List ℕ → End → Answer (List ℕ) → Type 0
-EndedWith d work (EndPlan n cost made) a = PlanAt d work made n cost a
-EndedWith d work (EndNoPlan made) a = a ≡ no_plan made
-EndedWith d work (EndSpent bound) a = a ≡ spent d.limit bound
+EndedWith d work (Plan node made) a = PlanAt d work made node.n node.cost a
+EndedWith d work (NoPlan made) a = a ≡ no_plan made
+EndedWith d work (Spent bound) a = a ≡ spent d.limit bound
+
+-- what a turn on the workspace comes to is the definition's turn t
+abbrev pub TurnedTo : Sheet → List ℕ → ControlFlow End Made → Turn (List ℕ) Constraint → Type 0
+TurnedTo d work (Continue m) t = (st : State (List ℕ) Constraint) × (t ≡ more st) × Held d work m.nodes m.latest st
+TurnedTo d work (Break end) t = (a : Answer (List ℕ)) × (t ≡ done a) × EndedWith d work end a

@@ -1,79 +1,57 @@
 // The turns of the search on the workspace.
 #![tactic(auto)]
 
-ghost use Rattle.std.specs.Prelude.{◌≡◌, List, [], ◌∷◌, ℕ, ◌+◌, ◌*◌, ◌<◌, ◌≤◌, length, None};
+ghost use Rattle.std.specs.Prelude.{◌≡◌, List, [], ◌∷◌, ℕ, ◌<◌, length, None};
 ghost use Rattle.deck.specs.Sheet.{read, count_of, cause};
 ghost use Rattle.deck.specs.Search.{State, root_of, rest_after, turn, cheapest};
-ghost use Rattle.deck.specs.Planner.{problem, bound_by, sides, plan_for};
+ghost use Rattle.deck.specs.Planner.{problem, sides, plan_for};
 ghost use Rattle.deck.specs.Collisions.{first_collision};
-ghost use Rattle.deck.specs.Calls.{collision_found};
 ghost use Rattle.deck.specs.declared.Constraint.{Constraint};
 ghost use Rattle.meaning.specs.Making.{make_each};
+ghost use Rattle.records.specs.Record.{HasRecord};
 ghost use Rattle.nodes.specs.Nodes.{node_at, Lows};
 ghost use Rattle.meaning.specs.Constraints.{InRange};
 ghost use Rattle.expand.specs.Held.{Given, Held, Holding, NodeAt, Nodes, Same};
 ghost use Rattle.turns.specs.Turns.{StartsOf, Turning, TurnedTo, EndedWith};
 
-use deck::{Collision, CollisionAnswer, Constraint};
-use expand::Grown;
-use nodes::{Child, Pick};
+use deck::{Collision, Constraint};
+use expand::Made;
+use nodes::{ConstraintList, Open};
+use std::ops::ControlFlow;
 
-// What a turn comes to: more nodes, the node that is the plan, no open node, or a node was to be made and none is left.
-#[derive(Clone, Copy)]
-pub enum Turned {
-    More { made: usize, latest: usize },
-    Plan { n: usize, cost: usize },
-    NoPlan,
-    Spent(usize),
-}
-
-// What the search comes to; beside a plan or none, how many nodes are made.
-#[derive(Clone, Copy)]
+// How the search ends: a node is the plan; no node is open; or a node was to be made and none was left, where no plan costs less than
+// the bound. Beside a plan or none, how many nodes are made.
+#[derive(Clone, Copy, Debug, PartialEq, Eq)]
 pub enum End {
-    Plan { n: usize, cost: usize, made: usize },
-    NoPlan(usize),
-    Spent(usize),
+    Plan { node: Open, made: usize },
+    NoPlan { made: usize },
+    Spent { bound: usize },
 }
 
-// The first child of a collision: the constraint that binds carrier i.
-fn first_side(c: Collision) -> Child
-    ensures { (result.constraint ≡ (sides c).0) × (bound_by result.constraint ≡ result.carrier.0) }
+// The constraints of the two children of a collision: that of carrier i, and that of carrier j, whose step goes the other way.
+#[tactic(auto, unfolding(deck::specs::Planner::sides))]
+fn sides(c: Collision) -> (Constraint, Constraint)
+    ensures { result ≡ sides c }
 {
     match c {
-        Collision::Place { t, i, j: _, u } => Child {
-            carrier: i,
-            constraint: Constraint::Place { carrier: i, u, t },
-        },
-        Collision::Move { t, i, j: _, u, v } => Child {
-            carrier: i,
-            constraint: Constraint::Move {
+        Collision::Place { t, i, j, u } => (
+            Constraint::Place { carrier: i, u, t },
+            Constraint::Place { carrier: j, u, t },
+        ),
+        Collision::Move { t, i, j, u, v } => (
+            Constraint::Move {
                 carrier: i,
                 u,
                 v,
                 t,
             },
-        },
-    }
-}
-
-// The second child: the constraint that binds carrier j, whose step goes the other way.
-fn second_side(c: Collision) -> Child
-    ensures { (result.constraint ≡ (sides c).1) × (bound_by result.constraint ≡ result.carrier.0) }
-{
-    match c {
-        Collision::Place { t, i: _, j, u } => Child {
-            carrier: j,
-            constraint: Constraint::Place { carrier: j, u, t },
-        },
-        Collision::Move { t, i: _, j, u, v } => Child {
-            carrier: j,
-            constraint: Constraint::Move {
+            Constraint::Move {
                 carrier: j,
                 u: v,
                 v: u,
                 t,
             },
-        },
+        ),
     }
 }
 
@@ -84,9 +62,9 @@ fn collision_of(
     work: &[u32],
     n: usize,
     paths: &mut [u16; 3072],
-) -> CollisionAnswer
-    requires { (cause s.now ≡ None) × StartsOf (read s.now) starts.now × (512 * n + 512 ≤ length work.now) }
-    ensures { result ≡ collision_found (first_collision (count_of s.now) (read s.now).horizon (node_at (read s.now) work.now n).paths) }
+) -> Option<Collision>
+    requires { (cause s.now ≡ None) × StartsOf (read s.now) starts.now × HasRecord work.now n }
+    ensures { result ≡ first_collision (count_of s.now) (read s.now).horizon (node_at (read s.now) work.now n).paths }
 {
     let w = sheet::width(s);
     let m = sheet::count(s);
@@ -95,34 +73,30 @@ fn collision_of(
     collision_scan::first_among(m, last, paths)
 }
 
-// Expands node n, which costs `cost`, by the collision c.
+// Expands a node by the collision c.
 fn expanded(
     s: &[u8],
     mask: &[u8; 1156],
     t: &[u16; 144],
     work: &mut [u32],
     spare: &mut [u32; 8192],
-    list: &mut [u16],
-    made: usize,
-    latest: usize,
-    n: usize,
-    cost: usize,
+    list: &mut ConstraintList,
+    made: Made,
+    node: Open,
     c: Collision,
     bounds: &[u8],
-) -> Turned
-    requires given { Given s.now mask.now t.now work.old bounds.now × (n < made) × (length list.old ≡ 20480) × Holding (read s.now) work.old made latest }
-    requires node_at { NodeAt (read s.now) work.old n × InRange (read s.now) (sides c).0 × InRange (read s.now) (sides c).1 }
-    ensures turned { (opened : Nodes) (rest : List (List ℕ)) → Held (read s.now) work.old made latest (record { opened = opened; made = made; rest = rest }) → TurnedTo (read s.now) work.new made result (make_each (problem (read s.now)) (read s.now).limit cost (node_at (read s.now) work.old n) (sides c) rest (record { opened = opened; made = made; rest = rest_after (problem (read s.now)) (node_at (read s.now) work.old n).root rest })) }
-    ensures same { Same (read s.now) work.old work.new made }
+) -> ControlFlow<End, Made>
+    requires given { Given s.now mask.now t.now work.old bounds.now × (node.n < made.nodes) × Holding (read s.now) work.old made.nodes made.latest }
+    requires node_at { NodeAt (read s.now) work.old node.n × InRange (read s.now) (sides c).0 × InRange (read s.now) (sides c).1 }
+    ensures turned { (opened : Nodes) (rest : List (List ℕ)) → Held (read s.now) work.old made.nodes made.latest (record { opened = opened; made = made.nodes; rest = rest }) → TurnedTo (read s.now) work.new result (make_each (problem (read s.now)) (read s.now).limit node.cost (node_at (read s.now) work.old node.n) (sides c) rest (record { opened = opened; made = made.nodes; rest = rest_after (problem (read s.now)) (node_at (read s.now) work.old node.n).root rest })) }
+    ensures same { Same (read s.now) work.old work.new made.nodes }
 {
-    let first = first_side(c);
-    let second = second_side(c);
-    let grown = expand::expand(
-        s, mask, t, work, spare, list, made, latest, n, first, second, bounds,
-    );
-    match grown {
-        Grown::Made { made: k, latest: l } => Turned::More { made: k, latest: l },
-        Grown::Spent => Turned::Spent(cost),
+    let (first, second) = sides(c);
+    match expand::expand(
+        s, mask, t, work, spare, list, made, node.n, first, second, bounds,
+    ) {
+        Some(more) => ControlFlow::Continue(more),
+        None => ControlFlow::Break(End::Spent { bound: node.cost }),
     }
 }
 
@@ -135,29 +109,29 @@ fn turn(
     t: &[u16; 144],
     work: &mut [u32],
     spare: &mut [u32; 8192],
-    list: &mut [u16],
-    made: usize,
-    latest: usize,
+    list: &mut ConstraintList,
+    made: Made,
     bounds: &[u8],
     lows: &mut [u32; 64],
     paths: &mut [u16; 3072],
-) -> Turned
-    requires given { Given s.now mask.now t.now work.old bounds.now × StartsOf (read s.now) starts.now × (length list.old ≡ 20480) × Lows (read s.now).limit work.old made lows.old }
-    requires by_index { (st : State (List ℕ) Constraint) × (k : ℕ) × Turning (read s.now) work.old made latest k st }
-    ensures turned { (st : State (List ℕ) Constraint) (k : ℕ) → Turning (read s.now) work.old made latest k st → TurnedTo (read s.now) work.new made result (turn (problem (read s.now)) (read s.now).limit cheapest st) }
-    ensures lows { Lows (read s.now).limit work.new made lows.new }
+) -> ControlFlow<End, Made>
+    requires given { Given s.now mask.now t.now work.old bounds.now × StartsOf (read s.now) starts.now × Lows (read s.now).limit work.old made.nodes lows.old }
+    requires by_index { (st : State (List ℕ) Constraint) × (k : ℕ) × Turning (read s.now) work.old made.nodes made.latest k st }
+    ensures turned { (st : State (List ℕ) Constraint) (k : ℕ) → Turning (read s.now) work.old made.nodes made.latest k st → TurnedTo (read s.now) work.new result (turn (problem (read s.now)) (read s.now).limit cheapest st) }
+    ensures lows { Lows (read s.now).limit work.new made.nodes lows.new }
 {
     let limit = sheet::limit(s);
-    let Pick::Open { n, cost } = nodes::cheapest(work, limit, made, lows) else {
-        return Turned::NoPlan;
+    let Some(node) = nodes::cheapest(work, limit, made.nodes, lows) else {
+        return ControlFlow::Break(End::NoPlan { made: made.nodes });
     };
-    nodes::close(work, limit, made, n, lows);
-    let CollisionAnswer::Found(c) = collision_of(s, starts, work, n, paths) else {
-        return Turned::Plan { n, cost };
+    nodes::close(work, limit, made.nodes, node.n, lows);
+    let Some(c) = collision_of(s, starts, work, node.n, paths) else {
+        return ControlFlow::Break(End::Plan {
+            node,
+            made: made.nodes,
+        });
     };
-    expanded(
-        s, mask, t, work, spare, list, made, latest, n, cost, c, bounds,
-    )
+    expanded(s, mask, t, work, spare, list, made, node, c, bounds)
 }
 
 // The turns, from the first root on.
@@ -175,25 +149,24 @@ pub fn run(
     ensures { EndedWith (read s.now) work.new result (plan_for (read s.now)) }
 {
     let limit = sheet::limit(s);
-    let mut list = [0u16; 20480];
+    let mut list = ConstraintList::new();
     let mut paths = [0u16; 3072];
-    let mut lows = [65535u32; 64];
-    nodes::enter(work, limit, 0, 1, &mut lows);
-    let mut made = 1;
-    let mut latest = 1;
+    let mut lows = [records::CLOSED_KEY; 64];
+    let mut made = Made {
+        nodes: 1,
+        latest: 1,
+    };
+    nodes::enter(work, limit, 0, made.nodes, &mut lows);
     for _ in 0..limit + 1 {
         match turn(
-            s, mask, starts, t, work, spare, &mut list, made, latest, bounds, &mut lows, &mut paths,
+            s, mask, starts, t, work, spare, &mut list, made, bounds, &mut lows, &mut paths,
         ) {
-            Turned::More { made: k, latest: l } => {
-                nodes::enter(work, limit, made, k, &mut lows);
-                made = k;
-                latest = l;
+            ControlFlow::Continue(more) => {
+                nodes::enter(work, limit, made.nodes, more.nodes, &mut lows);
+                made = more;
             }
-            Turned::Plan { n, cost } => return End::Plan { n, cost, made },
-            Turned::NoPlan => return End::NoPlan(made),
-            Turned::Spent(bound) => return End::Spent(bound),
+            ControlFlow::Break(end) => return end,
         }
     }
-    End::NoPlan(0)
+    End::NoPlan { made: 0 }
 }

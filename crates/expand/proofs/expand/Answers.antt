@@ -38,4 +38,5 @@ returns-clause-same c =
     let one = c.in_ok-once in
     let x = first_branch root.rooted q.given.0 q.given.1 q.given.2 q.node_at.0 root.ensures.grew root.ensures.same c.next_root.auto.work q.node_at.1 in
     let k = fewer_root root.rooted q.given.2 c.args.n root.ensures.grew in
-    same_on (omega (arith, k, fewer_child one.once x one.ensures.grew)) (same_on k root.ensures.same one.ensures.same) c.make_child-2.ensures.same
+    let k2 = fewer_child one.once x one.ensures.grew in
+    same_on (omega (arith, k, k2)) (same_on k root.ensures.same one.ensures.same) c.make_child-2.ensures.same

@@ -14,33 +14,30 @@ words_fit m last a b = let l : last + 1 ≤ 256 = omega arith in omega (arith, m
 
 pub write_paths-requires : goal.write_paths-requires
 write_paths-requires c =
-    let start = c in
-    let ok = start.requires.0 in
-    let s = start.args.s.now in
+    let ok = c.requires.0 in
+    let s = c.args.s.now in
     let m = c.count-m.ensures.value in
     let last = c.horizon-last.ensures.value in (
-      start.requires.2,
+      c.requires.2,
       omega (arith, m, count_range s ok),
       omega (arith, m, count_range s ok),
       omega (arith, c.width-w.ensures.value, width_range s ok),
       omega (arith, last, horizon_range s ok),
-      rw c.write_paths-arg-2-1.given.0.1 (words_fit _ _ (omega (arith, m, count_range s ok)) (omega (arith, last, horizon_range s ok))),
+      omega (arith, words_fit c.count-m.result c.horizon-last.result (omega (arith, m, count_range s ok)) (omega (arith, last, horizon_range s ok))),
     )
 
 pub first_among-requires : goal.first_among-requires
 first_among-requires c =
-    let start = c in
-    let ok = start.requires.0 in
-    let s = start.args.s.now in
+    let ok = c.requires.0 in
+    let s = c.args.s.now in
     let m : c.count-m.result ≤ 12 = omega (arith, c.count-m.ensures.value, count_range s ok) in
     let last : c.horizon-last.result ≤ 255 = omega (arith, c.horizon-last.ensures.value, horizon_range s ok) in
-    (rw (c.write_paths.auto.out, c.write_paths-arg-2-1.given.0.1, ← add-one c.horizon-last.result) (words_fit _ _ m last), omega arith)
+    (rw (← add-one c.horizon-last.result) (omega (arith, c.write_paths.auto.out, words_fit c.count-m.result c.horizon-last.result m last)), omega arith)
 
 pub returns : goal.returns
 returns c =
-    let start = c in
-    node_collision (read start.args.s.now) start.args.work.now start.args.n _ _ _ start.args.starts.now
+    node_collision (read c.args.s.now) c.args.work.now c.args.n _ _ _ c.args.starts.now
     c.width-w.ensures.value
     c.horizon-last.ensures.value
-    c.count-m.ensures.value start.requires.1 _ _ _
+    c.count-m.ensures.value c.requires.1 _ _ _
     c.write_paths.ensures c.first_among.ensures

@@ -1,7 +1,5 @@
 -- `turns::run` meets its contract: the state that is held at the start of each turn leads to the search's answer. Assumes nothing.
-use mathlib.Core.Path.{◌≡◌}
-use Prim.Native.Nat.{◌-◌, ◌≤◌}
-use lib.ListN.{length}
+use Rattle.std.proofs.Common.{◌≡◌, ◌-◌, ◌≤◌, length}
 use Rattle.deck.specs.Sheet.{read}
 use Rattle.nodes.specs.Nodes.{Lows}
 use Rattle.turns.proofs.Running.{Going}
@@ -9,7 +7,7 @@ use Rattle.turns.proofs.run.Given as goal
 
 abbrev pub invariant-loop : goal.invariant-loop
 invariant-loop l =
-    (length l.work ≡ length l.initial.work) × (length l.list ≡ 20480) × (l.counter ≤ l.end) × Going l.s l.work l.made l.latest l.counter × Lows (read l.s).limit l.work l.made l.lows
+    (length l.work ≡ length l.initial.work) × (l.counter ≤ l.end) × Going l.s l.work l.made.nodes l.made.latest l.counter × Lows (read l.s).limit l.work l.made.nodes l.lows
 
 abbrev pub decreases-loop : goal.decreases-loop
 decreases-loop l = l.end - l.counter
