@@ -1,5 +1,5 @@
 -- What is listed so far, and what the loop comes to. Assumes nothing.
-use Rattle.std.proofs.Common.{ℕ, zero, suc, ◌+◌, ◌*◌, ◌-◌, ◌≤◌, ◌≡◌, refl, sym, ap, subst, ◌∙◌, ◌≢◌, List, [], ◌∷◌, ◌++◌, append_assoc, append-nil, le-leb, eq-eqb, ne_eqb, ◌<◌, add-one, arith, length, take, drop, length-append, take_at, drop_at, drop-drop, take_all}
+use Rattle.std.proofs.Common.{length-take, ℕ, zero, suc, ◌+◌, ◌*◌, ◌-◌, ◌≤◌, ◌≡◌, refl, sym, ap, subst, ◌∙◌, ◌≢◌, List, [], ◌∷◌, ◌++◌, append_assoc, append-nil, le-leb, eq-eqb, ne_eqb, ◌<◌, add-one, arith, length, take, drop, length-append, take_at, drop_at, drop-drop, take_all}
 use Rattle.std.specs.Prelude.{Option, None, Some, Ok, Err}
 use Rattle.std.proofs.lemmas.Bool.{lt-leb}
 use Rattle.deck.specs.Lists.{head_of}
@@ -117,11 +117,6 @@ pub slots_remain : (m : ℕ) (table work : List ℕ) (made : ℕ) (rest : List (
 slots_remain m table work zero rest n R = absurd (n refl)
 slots_remain m table work (suc k) rest n R = R
 
-length_take_most : {A : Type 0} (n : ℕ) (l : List A) → length (take n l) ≤ n
-length_take_most zero l = omega arith
-length_take_most (suc n) [] = omega arith
-length_take_most (suc n) (x ∷ l) = omega (arith, length_take_most n l)
-
 -- THE CALL
 module _ (m : ℕ) (table : List ℕ) where
   pub count_low : m < 1 → assignment_cause m table ≡ Some BadCount
@@ -152,5 +147,5 @@ module _ (m : ℕ) (table work lists : List ℕ) where
     answer = rw (e, ← f) (ap (λ (n : ℕ). Ok n) L.count);
     written = L.written ∙ rw (e, f);
     unwritten = λ n. absurd (n e);
-    low = omega (arith, L.count, length_take_most most (assignments_in_order m table));
+    low = omega (arith, L.count, length-take most (assignments_in_order m table));
   }

@@ -14,7 +14,8 @@ use Rattle.records.proofs.Cuts.{part_here, part_behind, part_before}
 use Rattle.records.proofs.Frames.{key_same, key_other, key_record}
 use Rattle.nodes.specs.Nodes.{upward, constraints_at, stored_path, cost_of, node_of, node_at, is_open, open_numbers, opened_at}
 use Rattle.nodes.specs.Stored.{Fits, Sound, Stored, Added}
-use Rattle.nodes.proofs.Tables.{map_select_same, map_append, count_snoc, select_append, select_same}
+use Rattle.std.proofs.lemmas.List.{map-append}
+use Rattle.nodes.proofs.Tables.{map_select_same, count_snoc, select_append, select_same}
 use Rattle.nodes.proofs.Grid.{read_back}
 use Rattle.nodes.proofs.Chains.{stored_links, node_same, chain_more}
 use Rattle.nodes.proofs.Costs.{cost_small, finishes_sum}
@@ -60,7 +61,7 @@ module _ (d : Sheet) (limit : ℕ) (before mid after : List ℕ) (made : ℕ) (f
   opened_more =
       ap (λ (t : List ℕ). map (node_at d after) (select (is_open limit after) t)) (count_snoc 0 made)
       ∙ ap (map (node_at d after)) (select_append (is_open limit after) (count_from 0 made) ((0 + made) ∷ []))
-      ∙ map_append (node_at d after) (open_numbers limit after made) (select (is_open limit after) ((0 + made) ∷ []))
+      ∙ map-append (node_at d after) (open_numbers limit after made) (select (is_open limit after) ((0 + made) ∷ []))
       ∙ ap₂ (λ (t w : List (Node (List ℕ) Constraint)). t ++ w) opened_old (rw (zero-add made, opened_new, node_new))
 
   sound_more : (k : ℕ) → k < made + 1 → Sound d k (fields_at after k)

@@ -15,7 +15,8 @@ use Rattle.nodes.specs.Nodes.{constraints_at, binds, binding_at}
 use Rattle.nodes.specs.Listed.{listed, Recorded}
 use Rattle.records.specs.declared.Origin.{Origin}
 use Rattle.nodes.specs.Stored.{Linked}
-use Rattle.nodes.proofs.Tables.{map_same, map_append, count_snoc, select_append}
+use Rattle.std.proofs.lemmas.List.{map-append}
+use Rattle.nodes.proofs.Tables.{map_same, count_snoc, select_append}
 use Rattle.nodes.proofs.Chains.{Links, chain_up, chain_root}
 
 -- THE LIST OF RECORDS
@@ -28,7 +29,7 @@ record_snoc rs k c l =
     let m : length rs / 5 ≡ k = omega arith in
     ap (λ (x : ℕ). map (constraint_at (rs ++ words_of c)) (below x)) n
     ∙ ap (map (constraint_at (rs ++ words_of c))) (count_snoc 0 k)
-    ∙ map_append (constraint_at (rs ++ words_of c)) (count_from 0 k) ((0 + k) ∷ [])
+    ∙ map-append (constraint_at (rs ++ words_of c)) (count_from 0 k) ((0 + k) ∷ [])
     ∙ ap₂ (λ (t u : List Constraint). t ++ u)
     (map_same (constraint_at (rs ++ words_of c)) (constraint_at rs) 0 k (λ j a b. old j (omega arith)))
     (ap (λ (x : Constraint). x ∷ []) (ap (constraint_at (rs ++ words_of c)) (zero-add k) ∙ last ∙ held_again c))

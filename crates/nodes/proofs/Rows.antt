@@ -6,7 +6,8 @@ use Rattle.pack.proofs.Trips.{length_unpack}
 use Rattle.records.specs.Cut.{put}
 use Rattle.records.specs.Record.{packed_in}
 use Rattle.nodes.specs.Nodes.{path_in, paths_in}
-use Rattle.nodes.proofs.Tables.{count_snoc, map_append}
+use Rattle.std.proofs.lemmas.List.{map-append}
+use Rattle.nodes.proofs.Tables.{count_snoc}
 
 flat_snoc : (l : List (List ℕ)) (x : List ℕ) → flat (l ++ (x ∷ [])) ≡ flat l ++ x
 flat_snoc [] x = append-nil x
@@ -23,7 +24,7 @@ module _ (w last : ℕ) (starts : List ℕ) (fs : List (List ℕ)) where
   rows_snoc : (i : ℕ) → rows_to (suc i) ≡ rows_to i ++ path_in w last starts fs i
   rows_snoc i =
       ap (λ (l : List ℕ). flat (map (path_in w last starts fs) l)) (count_snoc 0 i)
-      ∙ ap flat (map_append (path_in w last starts fs) (count_from 0 i) ((0 + i) ∷ []))
+      ∙ ap flat (map-append (path_in w last starts fs) (count_from 0 i) ((0 + i) ∷ []))
       ∙ flat_snoc (map (path_in w last starts fs) (count_from 0 i)) (path_in w last starts fs (0 + i))
       ∙ ap (λ (k : ℕ). rows_to i ++ path_in w last starts fs k) (zero-add i)
 

@@ -34,10 +34,6 @@ module _ {A : Type 0} where
       let z : k + suc i ≡ suc k + i = omega arith in
       rw (h k (λ q. omega arith), map_set f g (suc k) n i v (rw z at e) (λ j q. h j (λ r. q (r ∙ z))))
 
-  pub map_append : {B : Type 0} (f : B → A) (l r : List B) → map f (l ++ r) ≡ map f l ++ map f r
-  map_append f [] r = refl
-  map_append f (x ∷ l) r = ap (λ (t : List A). f x ∷ t) (map_append f l r)
-
 pub count_snoc : (k n : ℕ) → count_from k (suc n) ≡ count_from k n ++ ((k + n) ∷ [])
 count_snoc k zero = rw add-zero
 count_snoc k (suc n) =

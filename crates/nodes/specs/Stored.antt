@@ -1,7 +1,6 @@
 -- What is known of the records of the nodes that are made, and what it is to make one more. Assumes nothing.
-use Rattle.std.specs.Prelude.{ℕ, ◌+◌, ◌<◌, ◌≤◌, ◌≡◌, get_or, length}
-use mathlib.Core.List.{List, [], ◌∷◌, ◌++◌, Memᴰ as Mem}
-use Rattle.std.specs.Prelude.{Some}
+use Rattle.std.specs.Prelude.{ℕ, ◌+◌, ◌<◌, ◌≤◌, ◌≡◌, get_or, length, Some, List, [], ◌∷◌, ◌++◌}
+use mathlib.Core.List.{Memᴰ as Mem}
 use Rattle.deck.specs.Sheet.{Sheet, area, carrier, task, start_of}
 use Rattle.deck.specs.Paths.{walks, least_path, finish_of}
 use Rattle.deck.specs.Search.{Node}

@@ -1,15 +1,9 @@
 -- The frame: words put anew inside one field change that field of the cut list and no other. Assumes nothing.
-use Rattle.std.proofs.Common.{◌≡◌, refl, sym, ◌∙◌, ap, List, [], ◌∷◌, ◌++◌, append_assoc, ℕ, zero, suc, ◌+◌, ◌-◌, ◌<◌, ◌≤◌, add_assoc, arith, add-one, length, get_or, set, take, drop, length-drop, length-append, take_at, drop_at, take-add, drop-drop, length-take-le, get_or-take, get_or-drop, take-take}
-use lib.Seq.{set_split, take-nil, take-append-le, drop-append-le, take-append-add, drop-append-add}
+use Rattle.std.proofs.Common.{◌≡◌, refl, ◌∙◌, ap, List, [], ◌∷◌, ◌++◌, append_assoc, ℕ, zero, suc, ◌+◌, ◌-◌, ◌<◌, ◌≤◌, add_assoc, arith, add-one, length, get_or, set, take, drop, length-drop, length-append, take_at, drop_at, take-add, drop-drop, length-take-le, get_or-take, get_or-drop, take-take}
+use lib.Seq.{set_split, take-append-le, drop-append-le, take-append-add, drop-append-add}
+use Rattle.std.proofs.lemmas.List.{drop-take}
 use Rattle.deck.specs.Lists.{sum}
 use Rattle.records.specs.Cut.{part, put, offset, cut}
-
--- LISTS OF ANY ELEMENTS
-module _ {A : Type 0} where
-  drop_take : (j m : ℕ) (l : List A) → drop j (take (j + m) l) ≡ take m (drop j l)
-  drop_take zero m l = let e : 0 + m ≡ m = omega arith in rw e
-  drop_take (suc j) m [] = let e : suc j + m ≡ suc (j + m) = omega arith in rw e (sym (take-nil m))
-  drop_take (suc j) m (x ∷ l) = let e : suc j + m ≡ suc (j + m) = omega arith in rw e (drop_take j m l)
 
 put_after : (n o k : ℕ) (ys xs : List ℕ) → put (n + o) k ys xs ≡ take n xs ++ put o k ys (drop n xs)
 put_after n o k ys xs = rw (take-add n o xs, drop-drop o n xs, append_assoc)
@@ -31,7 +25,7 @@ take_put n j k r ys zs e s h =
     let t : take (j + (k + r)) (put j k ys zs) ≡ take j zs ++ (ys ++ take r (drop k (drop j zs))) =
     rw (e, p) at (take-append-add (take j zs) (ys ++ drop k (drop j zs)) (length ys + r) ∙ ap (λ (l : List ℕ). take j zs ++ l) (take-append-add ys (drop k (drop j zs)) r)) in
     let u : take j (take (j + (k + r)) zs) ≡ take j zs = take-take j (j + (k + r)) zs (omega arith) in
-    rw (s, t, u, drop_take j (k + r) zs, drop_take k r (drop j zs))
+    rw (s, t, u, drop-take j (k + r) zs, drop-take k r (drop j zs))
 
 drop_put : (b a k m : ℕ) (ys xs : List ℕ) → length ys ≡ k → b ≡ a + (k + m) → a + k ≤ length xs → drop b (put a k ys xs) ≡ drop b xs
 drop_put b a k m ys xs e s h =
@@ -60,7 +54,7 @@ part_behind b n a k ys xs g h =
     let p : length (take a xs) ≡ a = length-take-le a xs h in
     let q : b + (a - b) ≡ a = omega arith in
     let l : length (drop b (take a xs)) ≡ a - b = length-drop b (take a xs) ∙ rw p in
-    let s : drop b (take a xs) ≡ take (a - b) (drop b xs) = rw q at (drop_take b (a - b) xs) in
+    let s : drop b (take a xs) ≡ take (a - b) (drop b xs) = rw q at (drop-take b (a - b) xs) in
     rw (drop-append-le b (take a xs) (ys ++ drop k (drop a xs)) (omega arith), take-append-le n (drop b (take a xs)) (ys ++ drop k (drop a xs)) (omega arith), s)
     (take-take n (a - b) (drop b xs) (omega arith))
 
@@ -104,7 +98,7 @@ part_get a k j xs h = get_or-take k (drop a xs) j 0 h ∙ get_or-drop a xs j 0
 pub part_part : (a n b k : ℕ) (xs : List ℕ) → b + k ≤ n → part b k (part a n xs) ≡ part (a + b) k xs
 part_part a n b k xs h =
     let q : b + (n - b) ≡ n = omega arith in
-    let s : drop b (take n (drop a xs)) ≡ take (n - b) (drop b (drop a xs)) = rw q at (drop_take b (n - b) (drop a xs)) in
+    let s : drop b (take n (drop a xs)) ≡ take (n - b) (drop b (drop a xs)) = rw q at (drop-take b (n - b) (drop a xs)) in
     rw (s, take-take k (n - b) (drop b (drop a xs)) (omega arith), drop-drop b a xs)
 
 -- a part from a to a + k that was lent and came back as ys; as it was lent; its length

@@ -1,6 +1,6 @@
 -- The choice of the slot whose assignment comes first, and what its root is made of. Assumes nothing.
-use Rattle.std.specs.Prelude.{ℕ, ◌+◌, ◌*◌, ◌<◌, ◌≤◌, ◌≡◌, Bool, true, false, cond, set, eqb, ltb, Option, None, Some}
-use mathlib.Core.List.{List, [], ◌∷◌, Memᴰ as Mem}
+use Rattle.std.specs.Prelude.{ℕ, ◌+◌, ◌*◌, ◌<◌, ◌≤◌, ◌≡◌, Bool, true, false, cond, set, eqb, ltb, Option, None, Some, List, [], ◌∷◌}
+use mathlib.Core.List.{Memᴰ as Mem}
 use Rattle.partition.specs.Parts.{slot_part, Slot, Best}
 use Rattle.candidates.specs.Candidates.{less_from}
 use Rattle.tables.specs.declared.Part.{Part}

@@ -1,8 +1,7 @@
 -- The assignments that remain, as the slots of the roots' records: each slot is one of Murty's parts with its first assignment.
 -- Assumes nothing.
-use Rattle.std.specs.Prelude.{ℕ, ◌-◌, ◌<◌, ◌≤◌, ◌≡◌, cond, get_or, set, take, eqb}
-use mathlib.Core.List.{List, [], ◌∷◌, Memᴰ as Mem}
-use Rattle.std.specs.Prelude.{Option, None, Some}
+use Rattle.std.specs.Prelude.{ℕ, ◌-◌, ◌<◌, ◌≤◌, ◌≡◌, cond, get_or, set, take, eqb, Option, None, Some, List, [], ◌∷◌}
+use mathlib.Core.List.{Memᴰ as Mem}
 use Rattle.deck.specs.Lists.{count_from, each}
 use Rattle.deck.specs.Assignments.{sum_of}
 use Rattle.deck.specs.Calls.{task_list}

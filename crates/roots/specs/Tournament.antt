@@ -1,7 +1,7 @@
 -- The tournament of the slots: which of them comes first, in one word for each number up to the latest root. The numbers are a
 -- binary tree: under number k are 2 k + 1 and 2 k + 2. Assumes nothing.
-use Rattle.std.specs.Prelude.{ℕ, zero, suc, ◌+◌, ◌*◌, ◌-◌, ◌<◌, ◌≤◌, ◌/◌, ◌%◌, ◌≡◌, ◌⊎◌, ◌≢◌, cond, get_or, ltb, Option, None, Some}
-use mathlib.Core.List.{List, [], ◌∷◌, Memᴰ as Mem}
+use Rattle.std.specs.Prelude.{ℕ, zero, suc, ◌+◌, ◌*◌, ◌-◌, ◌<◌, ◌≤◌, ◌/◌, ◌%◌, ◌≡◌, ◌⊎◌, ◌≢◌, cond, get_or, ltb, Option, None, Some, List, [], ◌∷◌}
+use mathlib.Core.List.{Memᴰ as Mem}
 use Rattle.deck.specs.Lists.{count_from}
 use Rattle.deck.specs.Calls.{task_list}
 use Rattle.meaning.specs.Meaning.{Unbarred}

@@ -1,5 +1,6 @@
 -- There is a first assignment, or none at all. Assumes nothing.
-use Rattle.std.proofs.Common.{sym, subst}
+use Rattle.candidates.specs.declared.Candidate.{Candidate}
+use Rattle.std.proofs.Common.{ap, sym, subst}
 use Rattle.prices.specs.Square.{copied}
 use Rattle.deck.specs.Assignments.{assignments_in_order}
 use Rattle.candidates.proofs.Slots.{not_found, found}
@@ -15,4 +16,5 @@ returns-in_err-first c =
 
 pub first_root-requires : goal.first_root-requires
 first_root-requires c =
-    (c.requires.0, c.requires.1, c.requires.2, found c.args.m (copied c.args.m c.args.t.now) _ c.first.result c.in_ok-first.first c.first.ensures c.in_ok-first.was)
+    let first = found c.args.m (copied c.args.m c.args.t.now) _ c.first.result c.in_ok-first.first c.first.ensures c.in_ok-first.was in
+    (c.requires.0, c.requires.1, c.requires.2, (first.0, first.1, ap (λ (x : Candidate). x.tasks) first.2))

@@ -1,7 +1,7 @@
 -- One node more at each turn. Assumes nothing.
 use Rattle.std.proofs.Common.{◌≡◌, ◌+◌, ◌∙◌, get_or, arith}
 use Rattle.records.specs.Record.{key_at}
-use Rattle.nodes.proofs.Blocks.{key, lows_more, lows_at}
+use Rattle.nodes.proofs.Blocks.{key, lows_more}
 use Rattle.nodes.proofs.enter.Goals as goal
 
 pub loop-n-preserved : goal.loop-n-preserved
@@ -12,6 +12,3 @@ loop-n-preserved c =
     let read : get_or c.keys-keys.result.now n 0 ≡ key_at a.limit a.work.now n =
     rw zero at (key a.limit a.work.now c.keys-keys.result.now 0 a.made c.keys-keys.ensures (omega arith) (omega arith) n (omega arith)) in
     lows_more _ (omega arith) (c.min.ensures ∙ rw read) c.loop-n.invariant
-
-pub returns : goal.returns
-returns c = lows_at c.args.made (omega arith) c.loop-n.invariant

@@ -4,8 +4,6 @@ use Rattle.pack.specs.Pack.{tab, moved_of, shift, place_from}
 use Rattle.pack.proofs.Loops.{tab_more, from_more, shift_more, differences_fit}
 use Rattle.pack.proofs.steps.Goals as goal
 
-pub overflow_add-q : goal.overflow_add-q
-overflow_add-q c = omega (arith, differences_fit c.args.w (c.loop-place.rest % 5) c.requires.1)
 
 pub loop-place-init : goal.loop-place-init
 unfolding place_from shift tab

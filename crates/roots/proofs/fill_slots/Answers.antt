@@ -5,7 +5,7 @@ use Rattle.records.specs.Record.{fields_at, tasks_in}
 use Rattle.roots.specs.Choices.{part_in}
 use Rattle.tables.specs.declared.Part.{Part}
 use Rattle.roots.proofs.Parts.{byte_low}
-use Rattle.roots.proofs.Filling.{sofar_none, sofar_more, candidate_read}
+use Rattle.roots.proofs.Filling.{sofar_more, candidate_read}
 use Rattle.roots.proofs.fill_slots.Goals as goal
 
 pub slot_candidate-slot-requires : goal.slot_candidate-slot-requires
@@ -16,11 +16,6 @@ slot_candidate-slot-requires c =
       c.loop-j-test.true,
       byte_low (tasks_in (fields_at c.args.work.now c.args.n)) _ j (ap (λ (p : Part). p.tasks) part) (c.requires.2.low j c.loop-j-test.true),
     )
-
-pub loop-j-init : goal.loop-j-init
-loop-j-init c =
-    let part = c.part_in-part.ensures ∙ ap part_in c.at.ensures in
-    sofar_none c.args.m (copied c.args.m c.args.t.now) c.args.work.now c.args.n _ (ap (λ (p : Part). p.row.0) part)
 
 pub loop-j-preserved : goal.loop-j-preserved
 loop-j-preserved c =

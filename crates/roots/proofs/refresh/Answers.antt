@@ -2,7 +2,7 @@
 use Rattle.std.proofs.Common.{arith, sym, subst, length}
 use Rattle.roots.specs.Tournament.{Below}
 use Rattle.roots.proofs.Playing.{below_win, below_wider, best_of}
-use Rattle.roots.proofs.Replaying.{found_but, found_again}
+use Rattle.roots.proofs.Replaying.{found_but}
 use Rattle.roots.proofs.refresh.Goals as goal
 
 pub put_word-requires : goal.put_word-requires
@@ -28,11 +28,3 @@ replay-requires c =
       pre.3,
       found_but a.m w _ a.latest a.n pre.2 c.win_of-win.result c.best_in-own.result c.win_of-win.ensures pre.4 (best_of w a.n a.m (length w) c.best_in-own.result own c.best_in-own.ensures.1) c.put_word.ensures,
     )
-
-pub returns : goal.returns
-returns c =
-    let a = c.args in
-    let pre = c.requires in
-    let w = a.work.now in
-    let own = c.best_in-own.ensures.0 in
-    found_again a.m w _ a.latest a.n pre.2 c.win_of-win.result c.best_in-own.result c.win_of-win.ensures pre.4 (best_of w a.n a.m (length w) c.best_in-own.result own c.best_in-own.ensures.1) c.put_word.ensures _ own c.replay.ensures
