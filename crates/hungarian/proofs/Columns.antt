@@ -7,31 +7,24 @@ use Rattle.std.proofs.Math.Seq.{map-set_same}
 use Rattle.deck.specs.Sheet.{task}
 use Rattle.meaning.specs.Meaning.{◌at◌}
 use Rattle.prices.proofs.Growth.{lower}
+use Rattle.hungarian.specs.declared.Way.{Way}
 use Rattle.hungarian.specs.declared.Column.{Column}
 use Rattle.hungarian.specs.declared.Edge.{Edge}
-use Rattle.hungarian.specs.Solving.{marks, nears, froms, column_at, marked, farthest, slack_of, nearer_of, closer_of, Relaxed, Closest}
+use Rattle.hungarian.specs.Solving.{marks, nears, froms, way_at, column_at, marked, farthest, slack_of, nearer_of, closer_of, Relaxed, Closest}
 
 -- ONE COLUMN
 module _ (c : Column) (total s i : ℕ) where
-  nearer_marked : c.marked ≡ true → nearer_of c total s i ≡ c
+  nearer_marked : c.marked ≡ true → nearer_of c total s i ≡ c.way
   unfolding nearer_of
   nearer_marked h = rw h refl
 
-  nearer_less : c.marked ≡ false → s < c.near - total → nearer_of c total s i ≡ column_at false (total + s) i
+  nearer_less : c.marked ≡ false → s < c.way.near - total → nearer_of c total s i ≡ way_at (total + s) i
   unfolding nearer_of
-  nearer_less h k = rw (h, lt-ltb s (c.near - total) k) refl
+  nearer_less h k = rw (h, lt-ltb s (c.way.near - total) k) refl
 
-  nearer_kept : c.marked ≡ false → c.near - total ≤ s → nearer_of c total s i ≡ c
+  nearer_kept : c.marked ≡ false → c.way.near - total ≤ s → nearer_of c total s i ≡ c.way
   unfolding nearer_of
-  nearer_kept h k = rw (h, le-ltb s (c.near - total) k) refl
-
-  -- its mark stays
-  pub nearer_mark : (nearer_of c total s i).marked ≡ c.marked
-  nearer_mark = go c.marked refl
-    where
-      go : (b : Bool) → c.marked ≡ b → (nearer_of c total s i).marked ≡ c.marked
-      go true h = ap (λ (x : Column). x.marked) (nearer_marked h)
-      go false h = ⊎_elim (λ g. ap (λ (x : Column). x.marked) (nearer_less h g) ∙ sym h) (λ g. ap (λ (x : Column). x.marked) (nearer_kept h g)) (lower s (c.near - total))
+  nearer_kept h k = rw (h, le-ltb s (c.way.near - total) k) refl
 
 pub closest_none : (columns : List Bool) (near : List ℕ) → Closest columns near 0 (record { task = task 0; near = farthest })
 closest_none columns near = record { least = λ k l. absurd (not-suc-le-zero l); found = inl refl }
@@ -77,92 +70,89 @@ module _ (l : List Column) (k : ℕ) where
   pub mark_at : marked (marks l) k ≡ (get_or l k blank).marked
   mark_at = get_or-map (λ (c : Column). c.marked) l k blank
 
-  pub near_at : nears l at k ≡ (get_or l k blank).near
-  near_at = get_or-map (λ (c : Column). c.near) l k blank
+  pub near_at : nears l at k ≡ (get_or l k blank).way.near
+  near_at = get_or-map (λ (c : Column). c.way.near) l k blank
 
-  pub from_at : froms l at k ≡ (get_or l k blank).from.0
-  from_at = get_or-map (λ (c : Column). c.from.0) l k blank
+  pub from_at : froms l at k ≡ (get_or l k blank).way.from.0
+  from_at = get_or-map (λ (c : Column). c.way.from.0) l k blank
 
-  -- one column more is as it is to be
-  pub near_set : (c : Column) → nears (set l k c) ≡ set (nears l) k c.near
-  near_set c = map-set (λ (x : Column). x.near) l k c
+  -- with another way to column k, and where that joins the tree
+  abbrev pub with_way : Way → List Column
+  with_way w = set l k (record { way = w; marked = (get_or l k blank).marked })
 
--- a column joins the tree
-module _ (l : List Column) (k : ℕ) where
+  with_way_nears : (w : Way) → nears (with_way w) ≡ set (nears l) k w.near
+  with_way_nears w = map-set (λ (c : Column). c.way.near) l k _
+
+  with_way_marks : (w : Way) → marks (with_way w) ≡ marks l
+  with_way_marks w = map-set_same (λ (c : Column). c.marked) l k _ blank refl
+
   abbrev pub joined : List Column
-  joined = set l k (record { near = (get_or l k blank).near; from = (get_or l k blank).from; marked = true })
+  joined = set l k (record { way = (get_or l k blank).way; marked = true })
 
   pub joined_marks : marks joined ≡ set (marks l) k true
   joined_marks = map-set (λ (c : Column). c.marked) l k _
 
   pub joined_nears : nears joined ≡ nears l
-  joined_nears = map-set_same (λ (c : Column). c.near) l k _ blank refl
+  joined_nears = map-set_same (λ (c : Column). c.way.near) l k _ blank refl
 
   pub joined_froms : froms joined ≡ froms l
-  joined_froms = map-set_same (λ (c : Column). c.from.0) l k _ blank refl
+  joined_froms = map-set_same (λ (c : Column). c.way.from.0) l k _ blank refl
 
 -- THE FIRST n COLUMNS
 pub record RelaxedTo (w u v : List ℕ) (total i : ℕ) (old : List Column) (n : ℕ) (new : List Column) : Type 0 where
-  pub done : (k : ℕ) → k < n → get_or new k blank ≡ nearer_of (get_or old k blank) total (slack_of w u v i k) i
+  pub done : (k : ℕ) → k < n → (get_or new k blank).way ≡ nearer_of (get_or old k blank) total (slack_of w u v i k) i
   pub left : (k : ℕ) → n ≤ k → get_or new k blank ≡ get_or old k blank
   pub marks_kept : marks new ≡ marks old
   pub size : length new ≡ 12
 
 module _ (w u v : List ℕ) (total i : ℕ) (old : List Column) where
-  pub relaxed_more : (n : ℕ) (new : List Column) (c : Column) (s : ℕ) → n < 12 → s ≡ slack_of w u v i n
-      → c ≡ nearer_of (get_or new n blank) total s i → RelaxedTo w u v total i old n new → RelaxedTo w u v total i old (n + 1) (set new n c)
-  relaxed_more n new c s h q e R = record {
-    done = λ k g. ⊎_elim (λ z. rw z here) (λ z. get_or-set_other new n k c blank (omega arith) ∙ R.done k z) (eq-or-lt_of_le (le_of_suc-le-suc (rw add-one at g)));
-    left = λ k g. get_or-set_other new n k c blank (omega arith) ∙ R.left k (omega arith);
-    marks_kept = map-set_same (λ (x : Column). x.marked) new n c blank (ap (λ (x : Column). x.marked) e ∙ nearer_mark (get_or new n blank) total s i) ∙ R.marks_kept;
-    size = length-set new n c ∙ R.size;
+  pub relaxed_more : (n : ℕ) (new : List Column) (x : Way) (s : ℕ) → n < 12 → s ≡ slack_of w u v i n
+      → x ≡ nearer_of (get_or new n blank) total s i → RelaxedTo w u v total i old n new → RelaxedTo w u v total i old (n + 1) (with_way new n x)
+  relaxed_more n new x s h q e R = record {
+    done = λ k g. ⊎_elim (λ z. rw z here) (λ z. ap (λ (c : Column). c.way) (get_or-set_other new n k _ blank (omega arith)) ∙ R.done k z) (eq-or-lt_of_le (le_of_suc-le-suc (rw add-one at g)));
+    left = λ k g. get_or-set_other new n k _ blank (omega arith) ∙ R.left k (omega arith);
+    marks_kept = with_way_marks new n x ∙ R.marks_kept;
+    size = length-set new n _ ∙ R.size;
   }
     where
-      here : get_or (set new n c) n blank ≡ nearer_of (get_or old n blank) total (slack_of w u v i n) i
-      here = get_or-set_same new n c blank (omega (arith, R.size)) ∙ e ∙ rw (R.left n (le_refl n), q) refl
+      here : (get_or (with_way new n x) n blank).way ≡ nearer_of (get_or old n blank) total (slack_of w u v i n) i
+      here = ap (λ (c : Column). c.way) (get_or-set_same new n _ blank (omega (arith, R.size))) ∙ e ∙ rw (R.left n (le_refl n), q) refl
 
-  -- a column that is looked at is as it was
+  -- the mark of a column is as it was
+  mark_now : (n : ℕ) (new : List Column) (b : Bool) → (get_or new n blank).marked ≡ b → RelaxedTo w u v total i old n new → marked (marks old) n ≡ b
+  mark_now n new b h R = sym (ap (λ (l : List Bool). marked l n) R.marks_kept) ∙ mark_at new n ∙ h
+
   pub still_late : (n : ℕ) (new : List Column) → RelaxedTo w u v total i old n new → (marked (marks old) n ≡ false → total ≤ nears old at n)
-      → (get_or new n blank).marked ≡ false → total ≤ (get_or new n blank).near
-  still_late n new R h b =
-      let e = R.left n (le_refl n) in
-      omega (arith, ap (λ (x : Column). x.near) e, near_at old n, h (mark_at old n ∙ sym (ap (λ (x : Column). x.marked) e) ∙ b))
+      → (get_or new n blank).marked ≡ false → total ≤ (get_or new n blank).way.near
+  still_late n new R h b = omega (arith, ap (λ (x : Column). x.way.near) (R.left n (le_refl n)), near_at old n, h (mark_now n new false b R))
 
-  pub closest_set : (n : ℕ) (new : List Column) (c : Column) (s : ℕ) (e f : Edge) → n < 12 → c ≡ nearer_of (get_or new n blank) total s i
-      → f ≡ closer_of c.marked c.near n e → RelaxedTo w u v total i old n new → Closest (marks old) (nears new) n e → Closest (marks old) (nears (set new n c)) (n + 1) f
-  closest_set n new c s e f h q p R C =
-      let mark : c.marked ≡ marked (marks old) n = ap (λ (x : Column). x.marked) q ∙ nearer_mark (get_or new n blank) total s i ∙ sym (mark_at new n) ∙ ap (λ (l : List Bool). marked l n) R.marks_kept in
-      rw (near_set new n c, p, mark) (closest_more (marks old) (nears new) n c.near e (omega (arith, R.size, length-map new (λ (x : Column). x.near))) C)
+  pub closest_set : (n : ℕ) (new : List Column) (x : Way) (e f : Edge) → n < 12 → f ≡ closer_of (get_or new n blank).marked x.near n e
+      → RelaxedTo w u v total i old n new → Closest (marks old) (nears new) n e → Closest (marks old) (nears (with_way new n x)) (n + 1) f
+  closest_set n new x e f h p R C =
+      rw (with_way_nears new n x, p, ← mark_now n new _ refl R) (closest_more (marks old) (nears new) n x.near e (omega (arith, R.size, length-map new (λ (c : Column). c.way.near))) C)
 
   pub relaxed_all : (m n : ℕ) (new : List Column) → m ≤ n → RelaxedTo w u v total i old n new
       → Relaxed m w u v (marks old) total i (nears old) (froms old) (nears new) (froms new)
-  relaxed_all m n new h R = record { each = each; sizes = (length-map new (λ c. c.near) ∙ R.size, length-map new (λ c. c.from.0) ∙ R.size) }
-    where
-      each : (k : ℕ) → k < m → column_at (marked (marks old) k) (nears new at k) (froms new at k)
-          ≡ nearer_of (column_at (marked (marks old) k) (nears old at k) (froms old at k)) total (slack_of w u v i k) i
-      each k l =
-          let c = get_or old k blank in
-          let d = get_or new k blank in
-          let moved : d ≡ nearer_of c total (slack_of w u v i k) i = R.done k (omega arith) in
-          let same : d.marked ≡ c.marked = ap (λ (x : Column). x.marked) moved ∙ nearer_mark c total (slack_of w u v i k) i in
-          rw (near_at new k, from_at new k, near_at old k, from_at old k, mark_at old k)
-          (ap (λ (b : Bool). column_at b d.near d.from.0) (sym same) ∙ moved)
+  relaxed_all m n new h R = record {
+    each = λ k l. rw (near_at new k, from_at new k, near_at old k, from_at old k, mark_at old k) (R.done k (omega arith));
+    sizes = (length-map new (λ (c : Column). c.way.near) ∙ R.size, length-map new (λ (c : Column). c.way.from.0) ∙ R.size);
+  }
 
 -- WHAT THE WAYS OVER ROW i CHANGE
 module _ (m : ℕ) (w u v : List ℕ) (columns : List Bool) (total i : ℕ) (near from near' from' : List ℕ) (R : Relaxed m w u v columns total i near from near' from') where
   pub column_kept : (k : ℕ) → k < m → marked columns k ≡ true → (near' at k ≡ near at k) × (from' at k ≡ from at k)
   column_kept k l h =
       let e = R.each k l ∙ nearer_marked (column_at (marked columns k) (near at k) (from at k)) total (slack_of w u v i k) i h in
-      (ap (λ (x : Column). x.near) e, ap (λ (x : Column). x.from.0) e)
+      (ap (λ (x : Way). x.near) e, ap (λ (x : Way). x.from.0) e)
 
   pub column_moved : (k : ℕ) → k < m → marked columns k ≡ false
       → ((near' at k ≡ near at k) × (from' at k ≡ from at k) × (near at k - total ≤ slack_of w u v i k))
       ⊎ ((near' at k ≡ total + slack_of w u v i k) × (from' at k ≡ i) × (slack_of w u v i k < near at k - total))
   column_moved k l h = ⊎_elim
       (λ g. let e = R.each k l ∙ nearer_less (column_at (marked columns k) (near at k) (from at k)) total s i h g in
-      inr (ap (λ (x : Column). x.near) e, ap (λ (x : Column). x.from.0) e, g))
+      inr (ap (λ (x : Way). x.near) e, ap (λ (x : Way). x.from.0) e, g))
       (λ g. let e = R.each k l ∙ nearer_kept (column_at (marked columns k) (near at k) (from at k)) total s i h g in
-      inl (ap (λ (x : Column). x.near) e, ap (λ (x : Column). x.from.0) e, g)) (lower s (near at k - total))
+      inl (ap (λ (x : Way). x.near) e, ap (λ (x : Way). x.from.0) e, g)) (lower s (near at k - total))
     where
       s : ℕ
       s = slack_of w u v i k

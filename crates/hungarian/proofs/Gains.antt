@@ -90,13 +90,13 @@ module _ (m r : ℕ) (tasks : List (Option Task)) (columns : List Column) (total
     number = task_at tasks x (Some j) long own
 
     pub own_early : (in_tree m r (task_numbers tasks) (marks columns) x ≡ true → way_to r (task_numbers tasks) (nears columns) x ≤ total)
-        → (get_or columns j.0 blank).marked ≡ true → (get_or columns j.0 blank).near ≤ total
+        → (get_or columns j.0 blank).marked ≡ true → (get_or columns j.0 blank).way.near ≤ total
     own_early h b =
         let e : in_tree m r (task_numbers tasks) (marks columns) x ≡ marked (marks columns) j.0 = tree_column m r (task_numbers tasks) (marks columns) x other (omega (arith, number)) ∙ ap (marked (marks columns)) number in
         let w : way_to r (task_numbers tasks) (nears columns) x ≡ nears columns at j.0 = way_column r (task_numbers tasks) (nears columns) x other ∙ ap (◌at◌ (nears columns)) number in
         omega (arith, h (e ∙ mark_at columns j.0 ∙ b), w, near_at columns j.0)
 
-    pub gain_own : gain_of (get_or columns j.0 blank).marked (get_or columns j.0 blank).near total ≡ row_gain m r (task_numbers tasks) (marks columns) (nears columns) total x
+    pub gain_own : gain_of (get_or columns j.0 blank).marked (get_or columns j.0 blank).way.near total ≡ row_gain m r (task_numbers tasks) (marks columns) (nears columns) total x
     gain_own =
         rw (← mark_at columns j.0, ← near_at columns j.0, ← number)
         (gain_column m r (task_numbers tasks) (marks columns) (nears columns) total x other (omega (arith, number)))

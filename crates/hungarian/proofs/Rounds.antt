@@ -464,7 +464,7 @@ module _ (m : ℕ) (w : List ℕ) (r : ℕ) (small : m ≤ 12) (low : r < m) whe
 module _ (m : ℕ) (w : List ℕ) (r : ℕ) (small : m ≤ 12) (low : r < m) (u v : List ℕ) (columns : List Column) (p : Pairs) (t : Task) (k : ℕ)
     (H : Way m (cell w) r (◌at◌ u) (◌at◌ v) (◌at◌ (froms columns)) (◌at◌ (task_numbers p.tasks)) (◌at◌ (carrier_numbers p.carriers)) t.0 k) where
   abbrev own : Carrier
-  own = (get_or columns t.0 blank).from
+  own = (get_or columns t.0 blank).way.from
 
   pub step_low : (t.0 < m) × (own.0 < m)
   step_low =

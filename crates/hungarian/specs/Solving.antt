@@ -7,6 +7,7 @@ use Rattle.prices.specs.Matching.{AtMost, Bounded, Matches, Tree, Turning}
 use Rattle.prices.specs.Square.{cell}
 use Rattle.deck.specs.declared.Carrier.{Carrier}
 use Rattle.deck.specs.declared.Task.{Task}
+use Rattle.hungarian.specs.declared.Way.{Way as WayInCode}
 use Rattle.hungarian.specs.declared.Column.{Column}
 use Rattle.hungarian.specs.declared.Edge.{Edge}
 use Rattle.hungarian.specs.declared.Pairs.{Pairs}
@@ -36,17 +37,20 @@ pub record Within (m : ℕ) (p : Pairs) : Type 0 where
   pub carriers : (j : ℕ) (i : Carrier) → get_or p.carriers j None ≡ Some i → i.0 < m
 
 -- a column, and of a list of columns the marks, the lengths and the last rows
+abbrev pub way_at : ℕ → ℕ → WayInCode
+way_at near from = record { near = near; from = carrier from }
+
 abbrev pub column_at : Bool → ℕ → ℕ → Column
-column_at mark near from = record { near = near; from = carrier from; marked = mark }
+column_at mark near from = record { way = way_at near from; marked = mark }
 
 abbrev pub marks : List Column → List Bool
 marks l = map (λ c. c.marked) l
 
 abbrev pub nears : List Column → List ℕ
-nears l = map (λ c. c.near) l
+nears l = map (λ c. c.way.near) l
 
 abbrev pub froms : List Column → List ℕ
-froms l = map (λ c. c.from.0) l
+froms l = map (λ c. c.way.from.0) l
 
 -- a mark of an array
 abbrev pub marked : List Bool → ℕ → Bool
@@ -67,9 +71,9 @@ Slacks m w u v = (i j : ℕ) → i < m → j < m → (u at i ≤ cell w i j + v 
 -- THE SHORTEST WAYS from the row r, whose tree grows. near j is the length of the shortest way to column j so far, and from j its
 -- last row. A column's way is final as it joins the tree; total is the length of the way to the column that joined last.
 
--- a column after a way over the slack s from row i, which has the length total; a marked one stays as it is
-unfoldable pub nearer_of : Column → ℕ → ℕ → ℕ → Column
-nearer_of c total s i = cond c.marked c (cond (ltb s (c.near - total)) (column_at false (total + s) i) c)
+-- the shortest way to a column with that over the slack s from row i, which has the length total; a marked column's stays as it is
+unfoldable pub nearer_of : Column → ℕ → ℕ → ℕ → WayInCode
+nearer_of c total s i = cond c.marked c.way (cond (ltb s (c.way.near - total)) (way_at (total + s) i) c.way)
 
 -- the nearer of the edge e and the column j, where that is not marked
 unfoldable pub closer_of : Bool → ℕ → ℕ → Edge → Edge
@@ -77,7 +81,7 @@ closer_of mark near j e = cond mark e (cond (ltb near e.near) (record { task = t
 
 -- near' and from' are those of the columns after the ways from row i
 pub record Relaxed (m : ℕ) (w u v : List ℕ) (columns : List Bool) (total i : ℕ) (near from near' from' : List ℕ) : Type 0 where
-  pub each : (k : ℕ) → k < m → column_at (marked columns k) (near' at k) (from' at k) ≡ nearer_of (column_at (marked columns k) (near at k) (from at k)) total (slack_of w u v i k) i
+  pub each : (k : ℕ) → k < m → way_at (near' at k) (from' at k) ≡ nearer_of (column_at (marked columns k) (near at k) (from at k)) total (slack_of w u v i k) i
   pub sizes : (length near' ≡ 12) × (length from' ≡ 12)
 
 -- e is the nearest of the first n columns that are not marked

@@ -40,12 +40,17 @@ pub struct Solution {
     pub pairs: Pairs,
 }
 
-// A column beside the tree of a row: the length of the shortest way to it so far, and that way's last row. The way of a marked
-// column, one of the tree, is final.
+// The shortest way to a column so far: its length and its last row.
 #[derive(Clone, Copy, Debug, PartialEq, Eq)]
-struct Column {
+struct Way {
     near: u64,
     from: Carrier,
+}
+
+// A column beside the tree of a row. The way of a marked column, one of the tree, is final.
+#[derive(Clone, Copy, Debug, PartialEq, Eq)]
+struct Column {
+    way: Way,
     marked: bool,
 }
 
@@ -68,8 +73,8 @@ struct Tree<'a> {
 impl Problem<'_> {
     // How far the weight for a row and a column is above their prices.
     fn slack(&self, prices: &Prices, row: Carrier, column: Task) -> u64
-        requires i_bound { (row.0 < 12) × (column.0 < 12) }
-        requires i_bound_2 { (prices.now.rows at row.0 ≤ cell self.now.weights.now row.0 column.0 + prices.now.columns at column.0) × (cell self.now.weights.now row.0 column.0 + prices.now.columns at column.0 < farthest) }
+        requires in_range { (row.0 < 12) × (column.0 < 12) }
+        requires fits { (prices.now.rows at row.0 ≤ cell self.now.weights.now row.0 column.0 + prices.now.columns at column.0) × (cell self.now.weights.now row.0 column.0 + prices.now.columns at column.0 < farthest) }
         ensures { result ≡ slack_of self.now.weights.now prices.now.rows prices.now.columns row.0 column.0 }
     {
         entry(self.weights, row, column) + prices.columns[column.0] - prices.rows[row.0]
@@ -77,43 +82,49 @@ impl Problem<'_> {
 }
 
 impl Column {
-    // The column after the way over a row, at the length total, and a slack.
+    // The shortest way to the column, with that over a row, at the length total, and a slack.
     #[tactic(auto, unfolding(crate::specs::Solving::nearer_of))]
-    fn reached(self, total: u64, slack: u64, row: Carrier) -> Column
-        requires { self.marked ≡ false → total ≤ self.near }
+    fn nearer(self, total: u64, slack: u64, row: Carrier) -> Way
+        requires { self.marked ≡ false → total ≤ self.way.near }
         ensures { result ≡ nearer_of self total slack row.0 }
     {
-        if !self.marked && slack < self.near - total {
-            Column {
+        if self.marked {
+            return self.way;
+        }
+        if slack < self.way.near - total {
+            Way {
                 near: total + slack,
                 from: row,
-                marked: false,
             }
         } else {
-            self
+            self.way
         }
     }
 
     // What a price on the way to the column rises by, when the tree stops at the length total.
     fn gain(self, total: u64) -> u64
-        requires { self.marked ≡ true → self.near ≤ total }
-        ensures { result ≡ gain_of self.marked self.near total }
+        requires { self.marked ≡ true → self.way.near ≤ total }
+        ensures { result ≡ gain_of self.marked self.way.near total }
     {
-        if self.marked { total - self.near } else { 0 }
+        if self.marked {
+            total - self.way.near
+        } else {
+            0
+        }
     }
 }
 
 impl Edge {
     // The nearer of the edge and a column, where that is not marked.
     #[tactic(auto, unfolding(crate::specs::Solving::closer_of))]
-    fn closer(self, task: Task, column: Column) -> Edge
-        ensures { result ≡ closer_of column.marked column.near task.0 self }
+    fn closer(self, task: Task, marked: bool, near: u64) -> Edge
+        ensures { result ≡ closer_of marked near task.0 self }
     {
-        if !column.marked && column.near < self.near {
-            Edge {
-                task,
-                near: column.near,
-            }
+        if marked {
+            return self;
+        }
+        if near < self.near {
+            Edge { task, near }
         } else {
             self
         }
@@ -137,8 +148,10 @@ impl<'a> Tree<'a> {
         ensures { (result.problem ≡ problem.entry) × (result.root ≡ root) × (result.columns ≡ replicate 12 (column_at false farthest 0)) × (result.total ≡ 0) }
     {
         let column = Column {
-            near: u64::MAX,
-            from: Carrier(0),
+            way: Way {
+                near: u64::MAX,
+                from: Carrier(0),
+            },
             marked: false,
         };
         Tree {
@@ -151,8 +164,8 @@ impl<'a> Tree<'a> {
 
     // Looks at the ways over a row, which is at the length total, and hands back the nearest column outside the tree.
     fn relax(&mut self, prices: &Prices, row: Carrier) -> Edge
-        requires m_bound { (row.0 < self.old.problem.count) × Slacks self.old.problem.count self.old.problem.weights.now prices.now.rows prices.now.columns }
-        requires by_index { (k : ℕ) → k < self.old.problem.count → marked (marks self.old.columns) k ≡ false → self.old.total ≤ nears self.old.columns at k }
+        requires prices { (row.0 < self.old.problem.count) × Slacks self.old.problem.count self.old.problem.weights.now prices.now.rows prices.now.columns }
+        requires outside { (k : ℕ) → k < self.old.problem.count → marked (marks self.old.columns) k ≡ false → self.old.total ≤ nears self.old.columns at k }
         ensures kept { (self.new.problem ≡ self.old.problem) × (self.new.root ≡ self.old.root) × (self.new.total ≡ self.old.total) × (marks self.new.columns ≡ marks self.old.columns) }
         ensures relaxed { Relaxed self.old.problem.count self.old.problem.weights.now prices.now.rows prices.now.columns (marks self.old.columns) self.old.total row.0 (nears self.old.columns) (froms self.old.columns) (nears self.new.columns) (froms self.new.columns) }
         ensures closest { Closest (marks self.old.columns) (nears self.new.columns) self.old.problem.count result }
@@ -161,11 +174,16 @@ impl<'a> Tree<'a> {
             task: Task(0),
             near: u64::MAX,
         };
-        for j in 0..self.problem.count {
-            let slack = self.problem.slack(prices, row, Task(j));
-            let column = self.columns[j].reached(self.total, slack, row);
-            self.columns[j] = column;
-            nearest = nearest.closer(Task(j), column);
+        // Copies, which stay in registers. A marked column goes through the same steps, which leave it as it is: to pass over it took a
+        // third more time in all.
+        let problem = self.problem;
+        let total = self.total;
+        for j in 0..problem.count {
+            let slack = problem.slack(prices, row, Task(j));
+            let column = self.columns[j];
+            let way = column.nearer(total, slack, row);
+            self.columns[j].way = way;
+            nearest = nearest.closer(Task(j), column.marked, way.near);
         }
         nearest
     }
@@ -187,7 +205,7 @@ impl<'a> Tree<'a> {
     // The prices of the rows, when the tree stops there.
     fn raise_rows(&self, pairs: &Pairs, rows: &mut [u64; 12])
         requires within { Within self.now.problem.count pairs.now }
-        requires by_index { (x : ℕ) → x < self.now.problem.count → (in_tree self.now.problem.count self.now.root.0 (task_numbers pairs.now.tasks) (marks self.now.columns) x ≡ true → way_to self.now.root.0 (task_numbers pairs.now.tasks) (nears self.now.columns) x ≤ self.now.total) × (row_price self.now.problem.count self.now.root.0 rows.old (task_numbers pairs.now.tasks) (marks self.now.columns) (nears self.now.columns) self.now.total x < 2 ^ 64) }
+        requires fits { (x : ℕ) → x < self.now.problem.count → (in_tree self.now.problem.count self.now.root.0 (task_numbers pairs.now.tasks) (marks self.now.columns) x ≡ true → way_to self.now.root.0 (task_numbers pairs.now.tasks) (nears self.now.columns) x ≤ self.now.total) × (row_price self.now.problem.count self.now.root.0 rows.old (task_numbers pairs.now.tasks) (marks self.now.columns) (nears self.now.columns) self.now.total x < 2 ^ 64) }
         ensures { (x : ℕ) → x < self.now.problem.count → rows.new at x ≡ row_price self.now.problem.count self.now.root.0 rows.old (task_numbers pairs.now.tasks) (marks self.now.columns) (nears self.now.columns) self.now.total x }
     {
         for x in 0..self.problem.count {
@@ -236,7 +254,7 @@ impl Solution {
         let mut tree = Tree::new(*problem, row);
         let mut task = tree.grow(&self.pairs, &mut self.prices);
         for _ in 0..12usize {
-            let carrier = tree.columns[task.0].from;
+            let carrier = tree.columns[task.0].way.from;
             let next = self.pairs.tasks[carrier.0];
             self.pairs.pair(carrier, task);
             let Some(own) = next else {

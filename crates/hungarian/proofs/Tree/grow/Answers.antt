@@ -11,8 +11,8 @@ loop-next-init c =
     let p = c.args.self.now.problem in
     (refl, refl, c.requires.solved, rw (c.requires.row.1, c.requires.row.2) (grown_begins _ _ _ p.few c.requires.row.0 p.light _ _ _ _ c.requires.solved _ refl))
 
-pub relax-edge-requires-clause-m_bound : goal.relax-edge-requires-clause-m_bound
-relax-edge-requires-clause-m_bound c =
+pub relax-edge-requires-clause-prices : goal.relax-edge-requires-clause-prices
+relax-edge-requires-clause-prices c =
     let p = c.args.self.now.problem in
     let I = c.loop-next.invariant in
     rw I.0 (I.3.newest.0, slacks _ _ _ p.few c.requires.row.0 p.light _ _ _ _ I.2)
@@ -38,8 +38,8 @@ bounds c =
     let T = turn _ _ _ p.few c.requires.row.0 p.light _ _ _ _ I.2 _ _ _ _ _ I.3 _ _ _ R C in
     omega (arith, T.in_range, p.few)
 
-pub raise_rows-requires-clause-by_index : goal.raise_rows-requires-clause-by_index
-raise_rows-requires-clause-by_index c =
+pub raise_rows-requires-clause-fits : goal.raise_rows-requires-clause-fits
+raise_rows-requires-clause-fits c =
     let p = c.args.self.now.problem in
     let I = c.loop-next.invariant in
     let e = c.relax-edge.ensures in
