@@ -1,4 +1,3 @@
 pub mod Lines
 pub mod Standing
-pub mod Numbered
 pub mod Rounds

@@ -1,6 +1,5 @@
 -- The worked boards hold of the definitions, by computation. Assumes nothing.
-use mathlib.Core.Path.{refl}
-use mathlib.Core.List.{List, [], ◌∷◌}
+use Rattle.std.proofs.Common.{List, [], ◌∷◌, refl}
 use Rattle.deck.specs.Ranks.{insert, sort_by}
 use Rattle.deck.specs.Sheet.{words}
 use Rattle.deck.specs.Paths.{finish}

@@ -1,9 +1,10 @@
 -- What a board says, in the meaning's terms. Assumes nothing.
-use Rattle.std.specs.Prelude.{ℕ, suc, ◌≤◌, ◌<◌, ◌≡◌, ◌⊎◌, List, get_or}
+use Rattle.std.specs.Prelude.{ℕ, suc, ◌≤◌, ◌<◌, ◌≡◌, ◌⊎◌, List, get_or, Result, Ok, Err}
 use Rattle.deck.specs.Lists.{pieces}
 use Rattle.deck.specs.Sheet.{Sheet, last_goal}
-use Rattle.deck.specs.declared.SearchKind.{SearchKind}
-use Rattle.deck.specs.declared.SearchKind.TheVariants.{Plan, NoPlan, Spent, Refused}
+use Rattle.deck.specs.declared.cause.Cause.{Cause}
+use Rattle.deck.specs.declared.SearchAnswer.{SearchAnswer}
+use Rattle.deck.specs.declared.SearchAnswer.TheVariants.{Plan, NoPlan, Spent}
 use Rattle.meaning.specs.Meaning.{◌at◌, path_of, Path}
 use Rattle.board_lines.specs.Board.{no_line}
 use Rattle.board_lines.specs.declared.Line.{Line}
@@ -38,9 +39,9 @@ pub record Stands (d : Sheet) (tasks words : List ℕ) (ls : List Line) : Type 0
 abbrev pub Empty : List Line → Type 0
 Empty ls = (k : ℕ) → line_at ls k ≡ no_line
 
--- by the kind of the answer
-abbrev pub BoardStands : Sheet → SearchKind → List ℕ → List ℕ → List Line → Type 0
-BoardStands d Plan tasks words ls = Stands d tasks words ls
-BoardStands d NoPlan tasks words ls = Empty ls
-BoardStands d Spent tasks words ls = Empty ls
-BoardStands d (Refused c) tasks words ls = Empty ls
+-- by the answer
+abbrev pub BoardStands : Sheet → Result SearchAnswer Cause → List ℕ → List Line → Type 0
+BoardStands d (Ok (Plan tasks f n b)) words ls = Stands d tasks words ls
+BoardStands d (Ok (NoPlan n)) words ls = Empty ls
+BoardStands d (Ok (Spent n b)) words ls = Empty ls
+BoardStands d (Err c) words ls = Empty ls
