@@ -1,145 +1,96 @@
-// The assignments in order, from the slots of at most 8 roots, 12 to a root.
-ghost use Rattle.std.specs.Prelude.{◌≤◌, ◌<◌};
+// The assignments in order, each the first of a slot of those before: a tournament of at most 8 roots, with 12 slots to a root.
+ghost use Rattle.std.specs.Prelude.{◌≡◌, ◌≤◌, ◌<◌, length};
 
 use crate::list;
 use candidates::Candidate;
 use deck::Carrier;
 use std::io;
+use tables::Part;
 
-// A root: its tasks, and its part's row and closed tasks.
+// A part of the assignments that remain, and the first of them.
 #[derive(Clone, Copy)]
-struct Root {
-    tasks: [u8; 12],
-    row: usize,
-    closed: [u8; 12],
+struct Slot {
+    part: Part,
+    first: Candidate,
 }
 
-fn nothing() -> Candidate {
-    Candidate {
-        found: false,
-        sum: 0,
-        tasks: [255; 12],
+impl Slot {
+    // What remains of the part once its first assignment is listed.
+    fn root(&self) -> Part {
+        Part {
+            tasks: self.first.tasks,
+            ..self.part
+        }
     }
 }
 
-// The candidate of a slot.
-fn slot(m: usize, t: &[u16; 144], root: Root, j: usize) -> Candidate
-    requires { (m ≤ 12) × (j < m) }
+// The slot of carrier j of a root, where its part has an assignment.
+fn slot_of(m: usize, t: &[u16; 144], root: &Part, j: Carrier) -> Option<Slot>
+    requires { (m ≤ 12) × (j.0 < m) }
 {
-    let tasks = root.tasks;
-    let closed = root.closed;
-    if 12 <= tasks[j] {
-        return nothing();
+    if 12 <= root.tasks[j.0] {
+        return None;
     }
-    candidates::slot_candidate(m, t, &tasks, Carrier(root.row), &closed, Carrier(j))
+    Some(Slot {
+        part: candidates::slot(root, j),
+        first: candidates::slot_candidate(m, t, root, j)?,
+    })
 }
 
-// The root of the candidate c of a root's slot j.
-fn next_root(root: Root, c: Candidate, j: usize) -> Root
-    requires { j < 12 }
+// Writes the slots of a root.
+fn open(m: usize, t: &[u16; 144], root: &Part, slots: &mut [Option<Slot>])
+    requires { (m ≤ 12) × (length slots.old ≡ 12) }
 {
-    let tasks = root.tasks;
-    let closed = root.closed;
-    if 12 <= tasks[j] {
-        return root;
-    }
-    let next = c.tasks;
-    let k = candidates::slot_closed(&tasks, Carrier(root.row), &closed, Carrier(j));
-    Root {
-        tasks: next,
-        row: j,
-        closed: k,
+    for j in root.row.0..m {
+        slots[j] = slot_of(m, t, root, Carrier(j));
     }
 }
 
-// The slots with those of root number k.
-fn opened(m: usize, t: &[u16; 144], root: Root, k: usize, slots: [Candidate; 96]) -> [Candidate; 96]
-    requires { (m ≤ 12) × (k < 8) }
-{
-    let mut s = slots;
-    let row = root.row;
-    for j in row..m {
-        let c = slot(m, t, root, j);
-        s[12 * k + j] = c;
-    }
-    s
+// The slot whose first assignment comes first; it is taken out.
+fn take_first(slots: &mut [Option<Slot>; 96]) -> Option<Slot> {
+    slots
+        .iter_mut()
+        .filter(|slot| slot.is_some())
+        .min_by_key(|slot| slot.map(|s| s.first))?
+        .take()
 }
 
-fn better(slots: [Candidate; 96], b: usize, k: usize) -> usize
-    requires { (b ≤ 96) × (k < 96) }
-    ensures { result ≤ 96 }
-{
-    let c = slots[k];
-    if !c.found {
-        return b;
-    }
-    if b == 96 {
-        return k;
-    }
-    let d = slots[b];
-    if candidates::comes_before(c, d) { k } else { b }
-}
-
-// The number of the slot whose candidate comes first, 96 where there is none.
-fn best(slots: [Candidate; 96]) -> usize
-    ensures { result ≤ 96 }
-{
-    let mut b: usize = 96;
-    for k in 0..96usize {
-        b = better(slots, b, k);
-    }
-    b
-}
-
-// Writes the assignments after the first, up to 8 and up to `most` in all.
-pub fn in_order(rt: &impl Print, m: u8, table: &[u16], most: usize) -> io::Result<()> {
-    let n = tables::wide(m);
-    if n < 1 {
+// Lists the assignments after the first, up to 8 and up to `most` in all.
+pub fn list_next(rt: &impl Print, m: usize, table: &[u16], most: usize) -> io::Result<()> {
+    if m < 1 || 12 < m || table.len() != m * m {
         return Ok(());
     }
-    if 12 < n {
-        return Ok(());
+    let t = tables::filled(m, table);
+    match candidates::first(m, &t) {
+        Some(first) => list_from(rt, m, &t, first, most),
+        None => Ok(()),
     }
-    if table.len() != n * n {
-        return Ok(());
-    }
-    let t = tables::filled(n, table);
-    run(rt, n, &t, most)
 }
 
-fn run(rt: &impl Print, m: usize, t: &[u16; 144], most: usize) -> io::Result<()>
+fn list_from(
+    rt: &impl Print,
+    m: usize,
+    t: &[u16; 144],
+    first: Candidate,
+    most: usize,
+) -> io::Result<()>
     requires { m ≤ 12 }
 {
-    let first = candidates::first(m, t);
     let tasks = first.tasks;
-    let root = Root {
-        tasks: tasks,
-        row: 0,
+    let root = Part {
+        tasks,
+        row: Carrier(0),
         closed: [0; 12],
     };
-    let mut roots = [root; 8];
-    let mut slots = opened(m, t, root, 0, [nothing(); 96]);
-    for k in 1..8usize {
-        let b = best(slots);
-        if b == 96 {
+    let mut slots = [None; 96];
+    open(m, t, &root, &mut slots[..12]);
+    for k in 1..most.min(8) {
+        let Some(slot) = take_first(&mut slots) else {
             return Ok(());
-        }
-        if most <= k {
-            return Ok(());
-        }
-        let c = slots[b];
-        write(rt, c)?;
-        let next = next_root(roots[b / 12], c, b % 12);
-        roots[k] = next;
-        slots[b] = nothing();
-        let more = opened(m, t, next, k, slots);
-        slots = more;
+        };
+        print!(rt; "next ")?;
+        list(rt, slot.first.sum as usize, &slot.first.tasks)?;
+        open(m, t, &slot.root(), &mut slots[12 * k..12 * k + 12]);
     }
     Ok(())
-}
-
-fn write(rt: &impl Print, c: Candidate) -> io::Result<()> {
-    print!(rt; "next ")?;
-    let tasks = c.tasks;
-    list(rt, c.sum as u64, &tasks)
 }

@@ -2,55 +2,58 @@
 // A line has document 01's numbers: the cause, 1 for yes, and the flowtime.
 #![tactic(auto)]
 
-use deck::CheckAnswer;
+ghost use Rattle.std.specs.Prelude.{◌<◌, OnSome, length};
+
+use deck::Cause;
 use std::io;
+use testing::Stored;
+
+#[derive(Drop)]
+struct Case<'a> {
+    tasks: [u8; 12],
+    sheet: &'a [u8],
+    words: &'a [u8],
+}
 
 fn main(rt: HostRuntime) -> io::Result<()> {
     let mut buffer = [0u8; 262144];
-    let n = testing::read_full(&rt, &mut buffer)?;
-    cases(&rt, &buffer[..n])
-}
-
-fn cases(rt: &impl Print, s: &[u8]) -> io::Result<()> {
-    let mut at = 0;
-    while at < s.len() {
-        let size = testing::number_at(&s[at..], 0);
-        let count = testing::number_at(&s[at..], 2);
-        let end = at + 16 + size + 2 * count;
-        if s.len() < end {
-            return Ok(());
-        }
-        case(rt, &s[at..end], size, count)?;
-        at = end;
+    let mut input = Stored {
+        rest: input::read(&rt, &mut buffer)?,
+    };
+    while let Some(case) = next_case(&mut input) {
+        answer(&rt, case)?;
     }
     Ok(())
 }
 
-fn case(rt: &impl Print, t: &[u8], size: usize, count: usize) -> io::Result<()> {
-    if 65535 < size {
-        return Ok(());
-    }
-    if t.len() < 16 + size {
-        return Ok(());
-    }
-    if 4096 < count {
-        return Ok(());
-    }
-    let tasks = [
-        t[4], t[5], t[6], t[7], t[8], t[9], t[10], t[11], t[12], t[13], t[14], t[15],
-    ];
-    let from = 16 + size;
-    let ws = testing::words(&t[from..]);
-    report(
-        rt,
-        plan_check::check_plan(&t[16..from], tasks, &ws[0..count]),
-    )
+// The next case; one that is cut off is left out.
+fn next_case<'a>(input: &mut Stored<'a>) -> Option<Case<'a>>
+    ensures { OnSome result (length input.new.rest.now < length input.old.rest.now) }
+{
+    let size = usize::from(input.word()?);
+    let count = usize::from(input.word()?);
+    let tasks = *input.bytes(12)?.first_chunk::<12>()?;
+    let sheet = input.bytes(size)?;
+    let words = input.bytes(2 * count)?;
+    Some(Case {
+        tasks,
+        sheet,
+        words,
+    })
 }
 
-fn report(rt: &impl Print, a: CheckAnswer) -> io::Result<()> {
-    match a {
-        CheckAnswer::Yes(f) => testing::print_line(rt, &[0, 1, f]),
-        CheckAnswer::No => testing::print_line(rt, &[0; 3]),
-        CheckAnswer::Refused(c) => testing::print_line(rt, &[c as usize, 0, 0]),
+fn answer(rt: &impl Print, case: Case) -> io::Result<()> {
+    let mut space = [0u16; 4096];
+    match testing::words(case.words, &mut space) {
+        Some(words) => report(rt, plan_check::check_plan(case.sheet, case.tasks, words)),
+        None => Ok(()),
+    }
+}
+
+fn report(rt: &impl Print, answer: Result<Option<usize>, Cause>) -> io::Result<()> {
+    match answer {
+        Ok(Some(flowtime)) => testing::print_line(rt, &[0, 1, flowtime]),
+        Ok(None) => testing::print_line(rt, &[0; 3]),
+        Err(cause) => testing::print_line(rt, &[usize::from(u8::from(cause)), 0, 0]),
     }
 }
