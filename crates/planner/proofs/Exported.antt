@@ -30,7 +30,9 @@ use Rattle.in_order.specs.Listed.{listed_for, InOrderCall}
 use Rattle.board_lines.specs.Board.{board_numbers}
 use Rattle.board_lines.specs.Small.{SmallLines}
 use Rattle.board_lines.specs.declared.Line.{Line}
-use Rattle.board.specs.Call.{board_lines, BoardCall, BoardRight}
+use Rattle.board_lines.specs.Board.{lines_for}
+use Rattle.board_lines.specs.Stands.{BoardStands}
+use Rattle.board.specs.Call.{BoardCall}
 use Rattle.board.proofs.Called.{call_written}
 use Rattle.planner.proofs.Sizes.{path_small, assignment_small, search_small, board_small}
 
@@ -123,15 +125,15 @@ module _ {s work out : List ℕ} (r : Result SearchAnswer Cause) {work' out' : L
 
 -- THE GATE BOARD
 module _ {s work out : List ℕ} (r : Result SearchAnswer Cause) (ls : List Line) {work' out' : List ℕ} (p : BoardCall s work out (search_numbers r) ls work' out') where
-  pub lines_small : BoardRight (read s) r out' ls → SmallLines ls
+  pub lines_small : BoardStands (read s) r out' ls → SmallLines ls
   lines_small q = board_small s out' ls (length out) r (call_written r p.searched) q
 
-  pub board_exported : {numbers lines : List ℕ} → RightCall (read s) r out' → BoardRight (read s) r out' ls → numbers ≡ search_numbers r → lines ≡ board_numbers ls
+  pub board_exported : {numbers lines : List ℕ} → RightCall (read s) r out' → BoardStands (read s) r out' ls → numbers ≡ search_numbers r → lines ≡ board_numbers ls
       → BoardExport s work out numbers lines work' out'
   board_exported q h e f =
       let a = search_answered r p.searched in
       record {
         searched = search_exported r p.searched q e;
         lined = f ∙ ap board_numbers p.lined;
-        stands = subst (λ x. BoardRight (read s) x out' (board_lines (read s) (search_answer s (length work) (length out)) out')) a (subst (BoardRight (read s) r out') p.lined h);
+        stands = subst (λ x. BoardStands (read s) x out' (lines_for (read s) (search_answer s (length work) (length out)) out')) a (subst (BoardStands (read s) r out') p.lined h);
       }

@@ -14,7 +14,8 @@ use Rattle.deck.specs.declared.Carrier.{Carrier}
 use Rattle.deck.specs.declared.Task.{Task}
 use Rattle.optimal.specs.Demand.{RightCall}
 use Rattle.board_lines.specs.Board.{board_numbers}
-use Rattle.board.specs.Call.{board_lines, BoardRight}
+use Rattle.board_lines.specs.Board.{lines_for}
+use Rattle.board_lines.specs.Stands.{BoardStands}
 
 -- the words of workspace that an accepted sheet asks for, by its cause; 0 for any other
 unfoldable pub workspace_wanted : Option Cause → Sheet → ℕ
@@ -48,6 +49,6 @@ pub record SearchExport (s work out numbers work' out' : List ℕ) : Type 0 wher
 -- the gate board: numbers and lent words as those of the search, and the lines as numbers
 pub record BoardExport (s work out numbers lines work' out' : List ℕ) : Type 0 where
   pub searched : SearchExport s work out numbers work' out'
-  pub lined : lines ≡ board_numbers (board_lines (read s) (search_answer s (length work) (length out)) out')
+  pub lined : lines ≡ board_numbers (lines_for (read s) (search_answer s (length work) (length out)) out')
   -- what the lines say of a plan; without a plan they are zeros
-  pub stands : BoardRight (read s) (search_answer s (length work) (length out)) out' (board_lines (read s) (search_answer s (length work) (length out)) out')
+  pub stands : BoardStands (read s) (search_answer s (length work) (length out)) out' (lines_for (read s) (search_answer s (length work) (length out)) out')
