@@ -1,9 +1,7 @@
 -- From an accepted sheet to the answer: the starts, the first root, and the answer of the search's end. Assumes nothing.
 use Prim.Native.Nat.{ℕ, ◌+◌, ◌<◌, ◌≤◌}
 use mathlib.Core.Path.{◌≡◌, refl, sym, ap, ◌∙◌}
-use mathlib.Core.Bool.{true, false, not, false≢true}
 use mathlib.Core.List.{List, [], ◌∷◌}
-use Rattle.deck.specs.Numbers.{no_tasks}
 use Rattle.std.specs.Prelude.{Option, None, Some}
 use native.Mathlib.Decide.{ℕ_discrete, dec_le}
 use native.Mathlib.Omega.{arith}
@@ -15,12 +13,12 @@ use Rattle.deck.specs.Assignments.{assignments_in_order, least_assignment, table
 use Rattle.deck.specs.Search.{Answer, no_plan, spent, search_from, searched, cheapest}
 use Rattle.deck.specs.Planner.{problem, plan_for}
 use Rattle.deck.specs.Calls.{task_list, overwrite, search_found, search_written}
-use Rattle.deck.specs.declared.SearchKind.TheVariants.{Plan as PlanKind, NoPlan as NoPlanKind, Spent as SpentKind}
+use Rattle.deck.specs.declared.SearchAnswer.TheVariants.{Plan, NoPlan, Spent}
 use Rattle.meaning.specs.Meaning.{◌at◌, Assignment}
 use Rattle.meaning.proofs.Fuel.{plan_answers}
 use Rattle.prices.specs.Square.{copied}
 use Rattle.sheet.proofs.Accepted.{limit_range, count_range}
-use Rattle.candidates.specs.Candidates.{candidate_for}
+use Rattle.candidates.specs.Candidates.{candidate_for, candidate_of}
 use Rattle.candidates.specs.declared.Candidate.{Candidate}
 use Rattle.records.specs.Record.{fields_at, tasks_in, bytes}
 use Rattle.nodes.specs.Nodes.{paths_in}
@@ -94,33 +92,36 @@ module _ (s : List ℕ) (ok : cause s ≡ None) where
       let c : Some (no_plan 0) ≡ Some (plan_for (read s)) = sym (ap (search_from (problem (read s)) (read s).limit cheapest) e) ∙ plan_answers (read s) (limit_range s ok).0 in
       cc
 
-  module _ (t : List ℕ) (table : copied (read s).count t ≡ table_of (read s)) (m : ℕ) (em : m ≡ (read s).count) (r : Candidate)
-      (e : r ≡ candidate_for m (copied m t) (least_assignment m (copied m t))) where
+  module _ (t : List ℕ) (table : copied (read s).count t ≡ table_of (read s)) (m : ℕ) (em : m ≡ (read s).count) where
     abbrev first : Option (List ℕ)
     first = least_assignment (read s).count (table_of (read s))
 
-    candidate_is : r ≡ candidate_for (read s).count (table_of (read s)) first
-    candidate_is = e ∙ rw (em, table) refl
+    -- what the call for the first assignment answers
+    abbrev Answers : Option Candidate → Type 0
+    Answers r = r ≡ candidate_for m (copied m t) (least_assignment m (copied m t))
 
-    pub none_answer : not r.found ≡ true → plan_for (read s) ≡ no_plan 0
+    candidate_is : (r : Option Candidate) → Answers r → r ≡ candidate_for (read s).count (table_of (read s)) first
+    candidate_is r e = e ∙ rw (em, table) refl
+
+    pub none_answer : Answers None → plan_for (read s) ≡ no_plan 0
     unfolding candidate_for
-    none_answer f = go first refl candidate_is
+    none_answer e = go first refl (candidate_is None e)
       where
-        go : (o : Option (List ℕ)) → first ≡ o → r ≡ candidate_for (read s).count (table_of (read s)) o → plan_for (read s) ≡ no_plan 0
+        go : (o : Option (List ℕ)) → first ≡ o → None ≡ candidate_for (read s).count (table_of (read s)) o → plan_for (read s) ≡ no_plan 0
         go None z c = none_plan (none_assigned (read s) z)
-        go (Some a) z c = absurd (false≢true (sym (ap (λ (x : Candidate). not x.found) c) ∙ f))
+        go (Some a) z c = cc
 
-    pub some_tasks : not r.found ≡ false → (a : List ℕ) × (first ≡ Some a) × (r.tasks ≡ task_list a)
+    pub some_tasks : (r : Candidate) → Answers (Some r) → (a : List ℕ) × (first ≡ Some a) × (r.tasks ≡ task_list a)
     unfolding candidate_for
-    some_tasks f = go first refl candidate_is
+    some_tasks r e = go first refl (candidate_is (Some r) e)
       where
-        go : (o : Option (List ℕ)) → first ≡ o → r ≡ candidate_for (read s).count (table_of (read s)) o → (a : List ℕ) × (first ≡ Some a) × (r.tasks ≡ task_list a)
-        go None z c = absurd (false≢true (sym f ∙ ap (λ (x : Candidate). not x.found) c))
-        go (Some a) z c = (a, z, ap (λ (x : Candidate). x.tasks) c)
+        go : (o : Option (List ℕ)) → first ≡ o → Some r ≡ candidate_for (read s).count (table_of (read s)) o → (a : List ℕ) × (first ≡ Some a) × (r.tasks ≡ task_list a)
+        go None z c = cc
+        go (Some a) z c = let same : r ≡ candidate_of (read s).count (table_of (read s)) a = cc in (a, z, ap (λ (x : Candidate). x.tasks) same)
 
 -- THE ANSWER
 module _ (d : Sheet) (work : List ℕ) (made n cost : ℕ) (a : Answer (List ℕ)) (p : PlanAt d work made n cost a) where
-  pub plan_found : (tasks : List ℕ) → tasks ≡ bytes (tasks_in (fields_at work n)) → record { kind = PlanKind; tasks = tasks; flowtime = cost; nodes = made; bound = cost } ≡ search_found a
+  pub plan_found : (tasks : List ℕ) → tasks ≡ bytes (tasks_in (fields_at work n)) → Plan tasks cost made cost ≡ search_found a
   unfolding search_found
   plan_found tasks e = rw (p.answer, e, p.tasks) refl
 
@@ -129,7 +130,7 @@ module _ (d : Sheet) (work : List ℕ) (made n cost : ℕ) (a : Answer (List ℕ
   unfolding search_written
   plan_written w last m starts out words ew el em es e = e ∙ ap (λ ps. overwrite (flat ps) out) (paths_read d work n w last m starts ew el em es) ∙ rw p.answer refl
 
-pub none_found : (a : Answer (List ℕ)) (made : ℕ) → a ≡ no_plan made → record { kind = NoPlanKind; tasks = no_tasks; flowtime = 0; nodes = made; bound = 0 } ≡ search_found a
+pub none_found : (a : Answer (List ℕ)) (made : ℕ) → a ≡ no_plan made → NoPlan made ≡ search_found a
 unfolding search_found
 none_found a made e = rw e refl
 
@@ -137,7 +138,7 @@ pub none_written : (a : Answer (List ℕ)) (made : ℕ) (out : List ℕ) → a �
 unfolding search_written
 none_written a made out e = rw e refl
 
-pub spent_found : (a : Answer (List ℕ)) (nodes bound : ℕ) → a ≡ spent nodes bound → record { kind = SpentKind; tasks = no_tasks; flowtime = 0; nodes = nodes; bound = bound } ≡ search_found a
+pub spent_found : (a : Answer (List ℕ)) (nodes bound : ℕ) → a ≡ spent nodes bound → Spent nodes bound ≡ search_found a
 unfolding search_found
 spent_found a nodes bound e = rw e refl
 

@@ -1,29 +1,23 @@
 // The search of an accepted sheet that has bytes, with room enough: the first root, the turns, and the answer for their end.
 #![tactic(auto)]
 
-ghost use Rattle.deck.specs.Numbers.{no_tasks};
-ghost use Rattle.std.specs.Prelude.{◌≡◌, List, ℕ, ◌+◌, ◌*◌, ◌<◌, ◌≤◌, length, None};
-ghost use Rattle.std.specs.Prelude.{Some};
+ghost use Rattle.std.specs.Prelude.{◌≡◌, List, ℕ, ◌≤◌, length, None, Some};
 ghost use Rattle.deck.specs.Sheet.{read, count_of, cause};
 ghost use Rattle.deck.specs.Assignments.{least_assignment, table_of};
 ghost use Rattle.deck.specs.Calls.{search_found, search_written, task_list, workspace_for, plan_words};
 ghost use Rattle.deck.specs.Search.{Answer};
 ghost use Rattle.deck.specs.Planner.{plan_for};
-ghost use Rattle.deck.specs.declared.SearchAnswer.{SearchAnswer};
 ghost use Rattle.bars.specs.Padded.{MaskOf};
 ghost use Rattle.scratch.specs.Bounded.{Bounded};
 ghost use Rattle.expand.specs.Held.{Given};
 ghost use Rattle.turns.specs.Turns.{StartsOf, EndedWith};
 
-use deck::{Carrier, SearchAnswer, SearchKind, Task};
+use deck::{Carrier, SearchAnswer, Task};
+use records::Record;
 use turns::End;
 
-fn narrow(x: usize) -> u16
-    requires { x < 65536 }
-    ensures { result ≡ x }
-{
-    x as u16
-}
+// How many bytes the lower bounds of a task have.
+const BOUNDS: usize = 9216;
 
 fn starts_of(s: &[u8]) -> [u16; 12]
     requires { cause s.now ≡ None }
@@ -32,32 +26,25 @@ fn starts_of(s: &[u8]) -> [u16; 12]
     let m = sheet::count(s);
     let mut starts = [0u16; 12];
     for i in 0..m {
-        starts[i] = narrow(sheet::start(s, Carrier(i)));
+        starts[i] = sheet::start(s, Carrier(i)) as u16;
     }
     starts
 }
 
-// The lower bounds of all tasks, 9216 bytes to each.
+// The lower bounds of all tasks.
 fn bounds_of(s: &[u8], mask: &[u8; 1156], table: &mut [u8])
     requires { (cause s.now ≡ None) × MaskOf (read s.now) mask.now × (length table.old ≡ 110592) }
     ensures { Bounded (read s.now) table.new }
 {
     let m = sheet::count(s);
+    // Kept: no `chunks_exact_mut`, whose contract says nothing of what is written through it.
     for j in 0..m {
-        bounds::bounds(s, Task(j), mask, &mut table[9216 * j..9216 * j + 9216]);
-    }
-}
-
-// An answer in which no carrier has a task.
-pub fn without(kind: SearchKind, nodes: usize, bound: usize) -> SearchAnswer
-    ensures { result ≡ (record { kind = kind; tasks = no_tasks; flowtime = 0; nodes = nodes; bound = bound }) }
-{
-    SearchAnswer {
-        kind: kind,
-        tasks: [255; 12],
-        flowtime: 0,
-        nodes: nodes,
-        bound: bound,
+        bounds::bounds(
+            s,
+            Task(j),
+            mask,
+            &mut table[BOUNDS * j..BOUNDS * j + BOUNDS],
+        );
     }
 }
 
@@ -67,21 +54,23 @@ fn answered(s: &[u8], starts: &[u16; 12], work: &[u32], end: End, out: &mut [u16
     ensures { (a : Answer (List ℕ)) → EndedWith (read s.now) work.now end a → (result ≡ search_found a) × (out.new ≡ search_written a out.old) }
 {
     match end {
-        End::Plan { n, cost, made } => {
+        End::Plan { node, made } => {
             let w = sheet::width(s);
             let m = sheet::count(s);
             let last = sheet::horizon(s);
-            nodes::write_paths(work, n, starts, w, last, m, out);
-            SearchAnswer {
-                kind: SearchKind::Plan,
-                tasks: records::tasks_of(work, n),
-                flowtime: cost,
+            nodes::write_paths(work, node.n, starts, w, last, m, out);
+            SearchAnswer::Plan {
+                tasks: Record::at(work, node.n).tasks(),
+                flowtime: node.cost,
                 nodes: made,
-                bound: cost,
+                bound: node.cost,
             }
         }
-        End::NoPlan(made) => without(SearchKind::NoPlan, made, 0),
-        End::Spent(bound) => without(SearchKind::Spent, sheet::limit(s), bound),
+        End::NoPlan { made } => SearchAnswer::NoPlan { nodes: made },
+        End::Spent { bound } => SearchAnswer::Spent {
+            nodes: sheet::limit(s),
+            bound,
+        },
     }
 }
 
@@ -115,13 +104,21 @@ pub fn accepted(s: &[u8], work: &mut [u32], out: &mut [u16]) -> SearchAnswer
     let mask = mask::mask_of(s);
     let starts = starts_of(s);
     let t = finishes::table(s, &mask);
-    let first = candidates::first(sheet::count(s), &t);
-    if !first.found {
-        return without(SearchKind::NoPlan, 0, 0);
-    }
-    let tasks = first.tasks;
+    let Some(first) = candidates::first(sheet::count(s), &t) else {
+        return SearchAnswer::NoPlan { nodes: 0 };
+    };
     let mut spare = [0u32; 8192];
-    let mut bounds = [0u8; 110592];
+    let mut bounds = [0u8; 12 * BOUNDS];
     bounds_of(s, &mask, &mut bounds);
-    planned(s, &mask, &starts, &t, work, &mut spare, tasks, out, &bounds)
+    planned(
+        s,
+        &mask,
+        &starts,
+        &t,
+        work,
+        &mut spare,
+        first.tasks,
+        out,
+        &bounds,
+    )
 }

@@ -1,22 +1,19 @@
 -- `accepted` meets its contract: without a first assignment there is no plan; with one the search goes on from it. Assumes nothing.
-use mathlib.Core.Path.{◌∙◌}
-use native.Mathlib.Omega.{arith}
+use Rattle.std.proofs.Common.{arith}
 use Rattle.deck.specs.Sheet.{read}
 use Rattle.deck.specs.Planner.{plan_for}
 use Rattle.sheet.proofs.Accepted.{count_range}
 use Rattle.planning.proofs.Answering.{none_answer, some_tasks, none_found, none_written}
 use Rattle.planning.proofs.accepted.Goals as goal
 
-pub first-first-requires : goal.first-first-requires
-first-first-requires c = let s = c in omega (arith, c.count.ensures.value, count_range s.args.s.now s.requires.0)
+pub first-requires : goal.first-requires
+first-requires c = omega (arith, c.count.ensures.value, count_range c.args.s.now c.requires.0)
 
-pub returns-then-not-first : goal.returns-then-not-first
-returns-then-not-first c =
-    let s = c in
-    let e = none_answer s.args.s.now s.requires.0 c.table-t.result c.table-t.ensures c.count.result c.count.ensures.value c.first-first.result c.first-first.ensures c.if-not-first.true in
-    (c.without.ensures ∙ none_found (plan_for (read s.args.s.now)) 0 e, none_written (plan_for (read s.args.s.now)) 0 s.args.out.now e)
+pub returns-in_default : goal.returns-in_default
+returns-in_default c =
+    let e = none_answer c.args.s.now c.requires.0 c.table-t.result c.table-t.ensures c.count.result c.count.ensures.value c.in_default.ensures in
+    (none_found (plan_for (read c.args.s.now)) 0 e, none_written (plan_for (read c.args.s.now)) 0 c.args.out.now e)
 
 pub planned-requires-clause-by_index : goal.planned-requires-clause-by_index
 planned-requires-clause-by_index c =
-    let s = c in
-    let table = c.table-t in some_tasks s.args.s.now s.requires.0 table.result table.ensures c.count.result c.count.ensures.value c.first-first.result c.first-first.ensures c.if-not-first.false
+    some_tasks c.args.s.now c.requires.0 c.table-t.result c.table-t.ensures c.count.result c.count.ensures.value c.in-Some.first c.in-Some.ensures
