@@ -4,7 +4,6 @@ use Rattle.pack.specs.Pack.{tab, moved_of, shift, place_from}
 use Rattle.pack.proofs.Loops.{tab_more, from_more, shift_more, differences_fit}
 use Rattle.pack.proofs.steps.Goals as goal
 
-
 pub loop-place-init : goal.loop-place-init
 unfolding place_from shift tab
 loop-place-init c = record { place = refl; fits = c.requires.0; left = refl; written = refl }
