@@ -2,43 +2,43 @@
 #![tactic(auto)]
 
 ghost use Rattle.std.specs.Prelude.{◌≡◌};
+ghost use Rattle.deck.specs.Causes.{answer_unless};
 ghost use Rattle.deck.specs.Sheet.{read};
 ghost use Rattle.deck.specs.Calls.{search_cause, SearchCall};
 ghost use Rattle.deck.specs.Numbers.{search_numbers};
 ghost use Rattle.optimal.specs.Demand.{RightCall};
 
-use deck::{SearchAnswer, SearchKind, causes};
+use deck::{Cause, SearchAnswer};
 
-// The cause of a refusal, 0 for none.
-fn refusal(s: &[u8], work: usize, out: usize) -> u8
-    ensures { result ≡ search_cause s.now work out }
+// The first cause that holds, for a workspace and an output of so many words.
+fn check(s: &[u8], work: usize, out: usize) -> Result<(), Cause>
+    ensures { result ≡ answer_unless (search_cause s.now work out) tt }
 {
-    let c = sheet::cause(s);
-    if c != 0 {
-        return c;
-    }
+    sheet::check(s)?;
     let room = sheet::workspace(s);
-    let words = sheet::count(s) * (sheet::horizon(s) + 1);
     if work < room {
-        return causes::SHORT_WORKSPACE;
+        return Err(Cause::ShortWorkspace);
     }
+    let words = sheet::count(s) * (sheet::horizon(s) + 1);
     if out < words {
-        return causes::WRONG_LENGTH;
+        return Err(Cause::WrongLength);
     }
-    0
+    Ok(())
 }
 
 // THE CALL: for any sheet, workspace and output. A refused call changes no lent word, nor does that of a sheet of no bytes.
-pub fn search(s: &[u8], work: &mut [u32], out: &mut [u16]) -> SearchAnswer
+pub fn search(s: &[u8], work: &mut [u32], out: &mut [u16]) -> Result<SearchAnswer, Cause>
     ensures call { SearchCall s.now work.old out.old (search_numbers result) work.new out.new }
     ensures right { RightCall (read s.now) result out.new }
 {
-    let c = refusal(s, work.len(), out.len());
-    if c != 0 {
-        return planning::without(SearchKind::Refused(c), 0, 0);
+    check(s, work.len(), out.len())?;
+    if s.is_empty() {
+        return Ok(SearchAnswer::Plan {
+            tasks: [255; 12],
+            flowtime: 0,
+            nodes: 0,
+            bound: 0,
+        });
     }
-    if s.len() == 0 {
-        return planning::without(SearchKind::Plan, 0, 0);
-    }
-    planning::accepted(s, work, out)
+    Ok(planning::accepted(s, work, out))
 }
