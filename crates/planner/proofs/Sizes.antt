@@ -10,6 +10,8 @@ use native.Mathlib.Nat.{mul-le-mul_right, suc-mul}
 use native.Mathlib.Omega.{arith}
 use lib.ListN.{length, get_or}
 use lib.Dec.{leb}
+use Rattle.std.proofs.Common.{◌∙◌}
+use Rattle.std.proofs.lemmas.Option.{none-some}
 use Rattle.deck.specs.Lists.{below, sum, pieces}
 use Rattle.deck.specs.Sheet.{Sheet, read, cause, sheet_cause, area, task, count_of, horizon_of, start_of}
 use Rattle.deck.specs.Paths.{least_path, finish_of}
@@ -92,7 +94,7 @@ entry_small (x ∷ l) h (suc k) = entry_small l (λ i. h (suc i)) k
 
 module _ (m : ℕ) (table : List ℕ) (words : (k : ℕ) → table at k < 65536) where
   few : assignment_cause m table ≡ None → m ≤ 12
-  few e = ⊎_elim (λ h. absurd (omega (arith, count_high m table h))) (λ h. h) (lower 12 m)
+  few e = ⊎_elim (λ h. absurd (none-some _ (sym e ∙ count_high m table h))) (λ h. h) (lower 12 m)
 
   sum_of_small : (a : List ℕ) → length a ≤ 12 → sum_of m table a < word
   unfolding sum_of

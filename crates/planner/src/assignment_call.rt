@@ -1,6 +1,7 @@
 // The least assignment.
 ghost use Rattle.planner.specs.Exports.{AssignmentExport};
 
+use deck::Assignment;
 use numbers::assignment_numbers;
 
 // The numbers: cause, 1 if there is an assignment, its sum. All words of the three lists are written.
@@ -17,8 +18,19 @@ pub extern "C" fn planner_least_assignment(
 {
     let answer = assignment::least_assignment(m, table);
     *numbers = assignment_numbers(answer);
-    (*tasks, *rows, *columns) = match answer {
-        Ok(Some(found)) => (found.tasks, found.rows, found.columns),
-        Ok(None) | Err(_) => ([255; 12], [0; 12], [0; 12]),
+    let Ok(Some(found)) = answer else {
+        *tasks = [255; 12];
+        *rows = [0; 12];
+        *columns = [0; 12];
+        return;
     };
+    let Assignment {
+        tasks: list,
+        rows: row_prices,
+        columns: column_prices,
+        ..
+    } = found;
+    *tasks = list;
+    *rows = row_prices;
+    *columns = column_prices;
 }

@@ -1,7 +1,8 @@
--- `planner::assignment_call::planner_least_assignment` meets its contract: the call's answer field by field. Assumes nothing.
-use native.Mathlib.Omega.{arith}
+-- The sum is one of at most twelve entries.
+use Rattle.std.proofs.Common.{arith}
 use Rattle.planner.proofs.Exported.{kind_small}
 use Rattle.planner.proofs.assignment_call.planner_least_assignment.Goals as goal
 
 pub assignment_numbers-requires : goal.assignment_numbers-requires
-assignment_numbers-requires c = kind_small c.least_assignment-answer.result.kind c.least_assignment-answer.ensures.call (λ k. omega (arith, c.shared_slice_known-1.given k))
+assignment_numbers-requires c =
+    kind_small c.least_assignment-answer.result c.least_assignment-answer.ensures.call (λ k. omega (arith, c.shared_slice_known-1.given k))

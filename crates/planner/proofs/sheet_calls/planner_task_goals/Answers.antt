@@ -1,24 +1,19 @@
--- `planner::sheet_calls::planner_task_goals` meets its contract: each cause, and the task's pair of the directory. Assumes nothing.
-use mathlib.Core.Path.{sym, ◌∙◌}
-use native.Mathlib.Omega.{arith}
+-- A cause, no such task, and the task's pair of the directory.
+use Rattle.std.proofs.Common.{sym, ◌∙◌, arith}
+use Rattle.deck.specs.Sheet.{sheet_cause}
+use Rattle.meaning.proofs.Accepted.{none_of_ok, cause_of_err}
 use Rattle.planner.proofs.Exported.{goals_refused, goals_of_none, goals_at}
 use Rattle.planner.proofs.sheet_calls.planner_task_goals.Goals as goal
 
-pub returns-then-cause-ne0 : goal.returns-then-cause-ne0
-returns-then-cause-ne0 c =
-    let s = c in
-    goals_refused s.args.s.now s.args.j (λ e. c.if-cause-ne0.true (c.cause.ensures ∙ e))
+pub returns-in-Ok : goal.returns-in-Ok
+returns-in-Ok c =
+    goals_at c.args.s.now c.args.j (none_of_ok (sheet_cause c.args.s.now) _ _ (sym c.in-Ok.is ∙ c.check.ensures)) (omega (arith, c.count.ensures.value, c.if-j-count.true))
+    c.pair_at-goals.ensures.value
 
-pub returns-then-count-j : goal.returns-then-count-j
-returns-then-count-j c =
-    let e = c in
-    let s = e in
-    goals_of_none s.args.s.now s.args.j (sym e.cause.ensures ∙ e.if-cause-ne0.false) (omega (arith, c.count.ensures.value, c.if-count-j.true))
+pub returns-in_default : goal.returns-in_default
+returns-in_default c =
+    goals_of_none c.args.s.now c.args.j (none_of_ok (sheet_cause c.args.s.now) _ _ (sym c.in-Ok.is ∙ c.check.ensures)) (omega (arith, c.count.ensures.value, c.if-j-count.false))
 
-pub returns : goal.returns
-returns c =
-    let f = c in
-    let e = f in
-    let s = e in
-    goals_at s.args.s.now s.args.j (sym e.cause.ensures ∙ e.if-cause-ne0.false) (omega (arith, f.count.ensures.value, f.if-count-j.false))
-    c.pair_offset.ensures.value c.pair_size.ensures.value
+pub returns-in_default-2 : goal.returns-in_default-2
+returns-in_default-2 c =
+    goals_refused c.args.s.now c.args.j _ (cause_of_err (sheet_cause c.args.s.now) _ _ (sym c.in_default.is ∙ c.check.ensures))
