@@ -16,10 +16,10 @@ fn check(s: &[u8], work: usize, out: usize) -> Result<(), Cause>
 {
     sheet::check(s)?;
     let room = sheet::workspace(s);
+    let words = sheet::count(s) * (sheet::horizon(s) + 1);
     if work < room {
         return Err(Cause::ShortWorkspace);
     }
-    let words = sheet::count(s) * (sheet::horizon(s) + 1);
     if out < words {
         return Err(Cause::WrongLength);
     }

@@ -23,7 +23,7 @@ write_paths-requires c =
       omega (arith, m, count_range s ok),
       omega (arith, c.width-w.ensures.value, width_range s ok),
       omega (arith, last, horizon_range s ok),
-      words,
+      omega (arith, words),
     )
 
 pub at-requires : goal.at-requires
