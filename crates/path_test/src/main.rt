@@ -1,179 +1,100 @@
-// Answers each case of the standard input: eight two-byte numbers (how many bytes the sheet has, how many words the list of records, the
-// carrier, the task, how many words of workspace in two halves, the low one first, how many words of output, and the word that fills
-// both before the call), the sheet, and the records. A line has the answer, and the output's words up to the last that was changed.
+// Answers each case of the standard input: two-byte numbers (how many bytes the sheet has, how many words the list of records, the
+// carrier, the task, how many words of workspace in four bytes, how many words of output, and the word that fills both before the
+// call), the sheet, and the records. A line has the answer, and the output's words up to the last that was changed.
 // The cases are grids of one row, of one column and of other shapes up to 32 by 32, tasks of 1 to 8 goals (starts on goals, equal goals in
 // succession), lists of 0 to 4097 records that bar the least path so far or are another carrier's, waits and places barred on the last
 // goal up to the horizon, sheets without a path, each cause alone and with later ones, and the sheet of no bytes with records, workspace
 // and output of several lengths.
 #![tactic(auto)]
 
-ghost use Rattle.std.specs.Prelude.{◌≡◌, ◌<◌, ◌≤◌, length};
+ghost use Rattle.std.specs.Prelude.{◌<◌, OnSome, length};
 
-use deck::{Carrier, PathAnswer, Task};
+use deck::{Carrier, Cause, Task};
 use std::io;
+use testing::Stored;
+
+#[derive(Drop)]
+struct Case<'a> {
+    carrier: Carrier,
+    task: Task,
+    room: usize,
+    places: usize,
+    filler: u16,
+    sheet: &'a [u8],
+    records: &'a [u8],
+}
 
 // The workspace is that of a sheet of 32 by 32 with horizon 255, up to 3 goals a task and node limit 1.
 fn main(rt: HostRuntime) -> io::Result<()> {
     let mut buffer = [0u8; 524288];
     let mut work = [0u32; 1053184];
-    let n = testing::read_full(&rt, &mut buffer)?;
-    cases(&rt, &buffer[..n], &mut work)
-}
-
-fn cases(rt: &impl Print, s: &[u8], work: &mut [u32]) -> io::Result<()> {
-    let mut at = 0;
-    while at < s.len() {
-        let size = testing::number_at(&s[at..], 0);
-        let count = testing::number_at(&s[at..], 2);
-        let end = at + 16 + size + 2 * count;
-        if s.len() < end {
-            return Ok(());
-        }
-        case(rt, &s[at..end], size, count, work)?;
-        at = end;
+    let mut input = Stored {
+        rest: input::read(&rt, &mut buffer)?,
+    };
+    while let Some(case) = next_case(&mut input) {
+        answer(&rt, case, &mut work)?;
     }
     Ok(())
 }
 
-fn case(rt: &impl Print, t: &[u8], size: usize, count: usize, work: &mut [u32]) -> io::Result<()> {
-    if 65535 < size {
-        return Ok(());
-    }
-    if t.len() < 16 + size {
-        return Ok(());
-    }
-    if 20490 < count {
-        return Ok(());
-    }
-    let room = testing::number_at(t, 8) + 65536 * testing::number_at(t, 10);
-    if work.len() < room {
-        return Ok(());
-    }
-    let from = 16 + size;
-    let ws = words(&t[from..]);
-    call(
-        rt,
-        &t[0..16],
-        &t[16..from],
-        &ws[0..count],
-        &mut work[0..room],
-    )
-}
-
-// The first 20490 two-byte values: the words of 4098 records.
-fn words(s: &[u8]) -> [u16; 20490]
-    ensures { 20490 ≡ length result }
+// The next case; one that is cut off is left out.
+fn next_case<'a>(input: &mut Stored<'a>) -> Option<Case<'a>>
+    ensures { OnSome result (length input.new.rest.now < length input.old.rest.now) }
 {
-    let mut ws = [0u16; 20490];
-    for k in 0..20490usize {
-        ws[k] = narrow(testing::number_at(s, 2 * k));
-    }
-    ws
+    let size = usize::from(input.word()?);
+    let count = usize::from(input.word()?);
+    let carrier = Carrier(usize::from(input.word()?));
+    let task = Task(usize::from(input.word()?));
+    let room = input.double_word()? as usize;
+    let places = usize::from(input.word()?);
+    let filler = input.word()?;
+    let sheet = input.bytes(size)?;
+    let records = input.bytes(2 * count)?;
+    Some(Case {
+        carrier,
+        task,
+        room,
+        places,
+        filler,
+        sheet,
+        records,
+    })
 }
 
-fn narrow(x: usize) -> u16 {
-    (x % 65536) as u16
+// A case for which there is too little space is left out.
+fn answer(rt: &impl Print, case: Case, work: &mut [u32]) -> io::Result<()> {
+    let mut space = [0u16; 20490];
+    let mut out = [case.filler; 300];
+    if let Some(records) = testing::words(case.records, &mut space)
+        && let Some(work) = work.get_mut(..case.room)
+        && let Some(out) = out.get_mut(..case.places)
+    {
+        call(rt, &case, records, work, out)?;
+    }
+    Ok(())
 }
 
 fn call(
     rt: &impl Print,
-    numbers: &[u8],
-    s: &[u8],
+    case: &Case,
     records: &[u16],
     work: &mut [u32],
+    out: &mut [u16],
 ) -> io::Result<()> {
-    let i = Carrier(testing::number_at(numbers, 4));
-    let j = Task(testing::number_at(numbers, 6));
-    let n = testing::number_at(numbers, 12);
-    if 300 < n {
-        return Ok(());
+    let filler = 65537 * u32::from(case.filler);
+    work.fill(filler);
+    let answer = path::least_path(case.sheet, case.carrier, case.task, work, out, records);
+    report(rt, answer)?;
+    if answer.is_err() {
+        testing::print_workspace(rt, work, filler)?;
     }
-    let junk = narrow(testing::number_at(numbers, 14));
-    fill(work, twice(junk));
-    let mut out = filled(junk);
-    let a = path::least_path(s, i, j, work, &mut out[0..n], records);
-    report(rt, a, work, twice(junk))?;
-    places(rt, &out, changed(&out, junk))
+    testing::print_output(rt, out, case.filler)
 }
 
-fn twice(x: u16) -> u32 {
-    65537 * (x as u32)
-}
-
-fn fill(work: &mut [u32], x: u32) {
-    for k in 0..work.len() {
-        work[k] = x;
+fn report(rt: &impl Print, answer: Result<Option<usize>, Cause>) -> io::Result<()> {
+    match answer {
+        Ok(Some(finish)) => print!(rt; "found {finish}"),
+        Ok(None) => print!(rt; "none"),
+        Err(cause) => print!(rt; "refused {}", u8::from(cause)),
     }
-}
-
-fn filled(x: u16) -> [u16; 300]
-    ensures { 300 ≡ length result }
-{
-    [x; 300]
-}
-
-// The answer. A refused call leaves the workspace as it was.
-fn report(rt: &impl Print, a: PathAnswer, work: &[u32], x: u32) -> io::Result<()> {
-    match a {
-        PathAnswer::Found(t) => {
-            print!(rt; "found {t}")?;
-        }
-        PathAnswer::NoPath => {
-            print!(rt; "none")?;
-        }
-        PathAnswer::Refused(c) => {
-            print!(rt; "refused {c}")?;
-            untouched(rt, work, x)?;
-        }
-    }
-    Ok(())
-}
-
-fn untouched(rt: &impl Print, work: &[u32], x: u32) -> io::Result<()> {
-    for k in 0..work.len() {
-        if work[k] != x {
-            print!(rt; " workspace changed")?;
-            return Ok(());
-        }
-    }
-    Ok(())
-}
-
-// How many words there are up to the last that is not x.
-fn changed(out: &[u16; 300], x: u16) -> usize
-    ensures { result ≤ 300 }
-{
-    let mut n = 0;
-    for k in 0..300usize {
-        n = further(n, k, out[k], x);
-    }
-    n
-}
-
-fn further(n: usize, k: usize, y: u16, x: u16) -> usize
-    requires { (n ≤ 300) × (k < 300) }
-    ensures { result ≤ 300 }
-{
-    if x == y { n } else { k + 1 }
-}
-
-fn places(rt: &impl Print, out: &[u16; 300], n: usize) -> io::Result<()>
-    requires { n ≤ 300 }
-{
-    colon(rt, n)?;
-    for k in 0..n {
-        place(rt, out[k])?;
-    }
-    print!(rt; "\n")
-}
-
-fn colon(rt: &impl Print, n: usize) -> io::Result<()> {
-    if 0 < n {
-        print!(rt; ":")?;
-    }
-    Ok(())
-}
-
-fn place(rt: &impl Print, v: u16) -> io::Result<()> {
-    print!(rt; " {v}")
 }

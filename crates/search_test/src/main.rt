@@ -1,7 +1,7 @@
-// Answers each case of the standard input: eight two-byte numbers (how many bytes the sheet has, how many words of workspace in two
-// halves, the low one first, how many words of output, the word that fills the output before the call, the word that fills the
-// workspace in two halves, and 1 where the workspace stays as the case before left it), and the sheet. A line has every field of the
-// answer, and the output's words up to the last that was changed.
+// Answers each case of the standard input: how many bytes the sheet has (two bytes), how many words of workspace (four), how many
+// words of output (two), the word that fills the output before the call (two), the word that fills the workspace (four), 1 where the
+// workspace stays as the case before left it (two), and the sheet. A line has every field of the answer, and the output's words up to
+// the last that was changed.
 // The cases are the rounds 1 to 6 of document 01, 5 and 6 at every node limit; sheets of many kinds with plans, none and spent at 0 to
 // 2048 nodes; single sheets at many node limits up to one more than they need; up to 12 carriers on little room (many assignments of
 // one sum), grids of one row and of one column, finishes above 200, grids up to 32 by 32; each cause alone and with later ones,
@@ -9,180 +9,119 @@
 // before a refused sheet that finds the workspace as it was left.
 #![tactic(auto)]
 
-ghost use Rattle.std.specs.Prelude.{◌≡◌, ◌<◌, ◌≤◌, length};
+ghost use Rattle.std.specs.Prelude.{◌<◌, OnSome, length};
 
-use deck::{SearchAnswer, SearchKind};
+use deck::{Cause, SearchAnswer};
 use std::io;
+use testing::Stored;
+
+#[derive(Drop)]
+struct Case<'a> {
+    room: usize,
+    places: usize,
+    out_filler: u16,
+    work_filler: u32,
+    keeps_workspace: bool,
+    sheet: &'a [u8],
+}
 
 // The workspace is that of a sheet of 32 by 32 with horizon 255, up to 3 goals a task and node limit 1, and of small sheets with
 // node limit 2048.
 fn main(rt: HostRuntime) -> io::Result<()> {
     let mut buffer = [0u8; 131072];
     let mut work = [0u32; 1053184];
-    let n = testing::read_full(&rt, &mut buffer)?;
-    cases(&rt, &buffer[..n], &mut work)
-}
-
-fn cases(rt: &impl Print, s: &[u8], work: &mut [u32]) -> io::Result<()> {
-    let mut at = 0;
-    while at < s.len() {
-        let end = at + 16 + testing::number_at(&s[at..], 0);
-        if s.len() < end {
-            return Ok(());
-        }
-        case(rt, &s[at..end], work)?;
-        at = end;
+    let mut input = Stored {
+        rest: input::read(&rt, &mut buffer)?,
+    };
+    while let Some(case) = next_case(&mut input) {
+        answer(&rt, case, &mut work)?;
     }
     Ok(())
 }
 
-fn case(rt: &impl Print, t: &[u8], work: &mut [u32]) -> io::Result<()> {
-    if t.len() < 16 {
-        return Ok(());
-    }
-    let room = double_at(t, 2);
-    if work.len() < room {
-        return Ok(());
-    }
-    call(rt, &t[0..16], &t[16..], &mut work[0..room])
-}
-
-// The value of two halves at k, the low one first.
-fn double_at(s: &[u8], k: usize) -> usize
-    requires { k < 256 }
-    ensures { result < 4294967296 }
+// The next case; one that is cut off is left out.
+fn next_case<'a>(input: &mut Stored<'a>) -> Option<Case<'a>>
+    ensures { OnSome result (length input.new.rest.now < length input.old.rest.now) }
 {
-    testing::number_at(s, k) + 65536 * testing::number_at(s, k + 2)
+    let size = usize::from(input.word()?);
+    let room = input.double_word()? as usize;
+    let places = usize::from(input.word()?);
+    let out_filler = input.word()?;
+    let work_filler = input.double_word()?;
+    let keeps_workspace = input.word()? == 1;
+    let sheet = input.bytes(size)?;
+    Some(Case {
+        room,
+        places,
+        out_filler,
+        work_filler,
+        keeps_workspace,
+        sheet,
+    })
 }
 
-fn call(rt: &impl Print, numbers: &[u8], s: &[u8], work: &mut [u32]) -> io::Result<()> {
-    let n = testing::number_at(numbers, 6);
-    if 3100 < n {
-        return Ok(());
+// A case for which there is too little space is left out.
+fn answer(rt: &impl Print, case: Case, work: &mut [u32]) -> io::Result<()> {
+    let mut out = [case.out_filler; 3100];
+    if let Some(work) = work.get_mut(..case.room)
+        && let Some(out) = out.get_mut(..case.places)
+    {
+        call(rt, &case, work, out)?;
     }
-    let junk = narrow(testing::number_at(numbers, 8));
-    let x = double_at(numbers, 10) as u32;
-    prepare(work, x, testing::number_at(numbers, 14));
-    let mut out = filled(junk);
-    let a = search::search(s, work, &mut out[0..n]);
-    report(rt, a, work, x)?;
-    places(rt, &out, changed(&out, junk))
+    Ok(())
 }
 
-fn narrow(x: usize) -> u16 {
-    (x % 65536) as u16
-}
-
-fn prepare(work: &mut [u32], x: u32, kept: usize) {
-    if kept == 1 {
-        return;
+fn call(rt: &impl Print, case: &Case, work: &mut [u32], out: &mut [u16]) -> io::Result<()> {
+    if !case.keeps_workspace {
+        work.fill(case.work_filler);
     }
-    fill(work, x);
-}
-
-fn fill(work: &mut [u32], x: u32) {
-    for k in 0..work.len() {
-        work[k] = x;
+    match search::search(case.sheet, work, out) {
+        Ok(answer) => found(rt, answer)?,
+        Err(cause) => {
+            refused(rt, cause)?;
+            testing::print_workspace(rt, work, case.work_filler)?;
+            numbers(rt, 0, 0, 0, &[255; 12])?;
+        }
     }
+    testing::print_output(rt, out, case.out_filler)
 }
 
-fn filled(x: u16) -> [u16; 3100]
-    ensures { 3100 ≡ length result }
-{
-    [x; 3100]
-}
-
-fn report(rt: &impl Print, a: SearchAnswer, work: &[u32], x: u32) -> io::Result<()> {
-    let kind = a.kind;
-    let tasks = a.tasks;
-    print_kind(rt, kind, work, x)?;
-    print!(rt; " flowtime {}", a.flowtime)?;
-    print!(rt; " nodes {}", a.nodes)?;
-    print!(rt; " bound {}", a.bound)?;
-    print_tasks(rt, &tasks)
-}
-
-// A refused call leaves the workspace as it was.
-fn print_kind(rt: &impl Print, kind: SearchKind, work: &[u32], x: u32) -> io::Result<()> {
-    match kind {
-        SearchKind::Plan => {
+fn found(rt: &impl Print, answer: SearchAnswer) -> io::Result<()> {
+    match answer {
+        SearchAnswer::Plan {
+            tasks,
+            flowtime,
+            nodes,
+            bound,
+        } => {
             print!(rt; "plan")?;
+            numbers(rt, flowtime, nodes, bound, &tasks)
         }
-        SearchKind::NoPlan => {
+        SearchAnswer::NoPlan { nodes } => {
             print!(rt; "none")?;
+            numbers(rt, 0, nodes, 0, &[255; 12])
         }
-        SearchKind::Spent => {
+        SearchAnswer::Spent { nodes, bound } => {
             print!(rt; "spent")?;
-        }
-        SearchKind::Refused(c) => {
-            print!(rt; "refused {c}")?;
-            untouched(rt, work, x)?;
+            numbers(rt, 0, nodes, bound, &[255; 12])
         }
     }
-    Ok(())
 }
 
-fn untouched(rt: &impl Print, work: &[u32], x: u32) -> io::Result<()> {
-    for k in 0..work.len() {
-        if work[k] != x {
-            print!(rt; " workspace changed")?;
-            return Ok(());
-        }
+fn refused(rt: &impl Print, cause: Cause) -> io::Result<()> {
+    print!(rt; "refused {}", u8::from(cause))
+}
+
+fn numbers(
+    rt: &impl Print,
+    flowtime: usize,
+    nodes: usize,
+    bound: usize,
+    tasks: &[u8; 12],
+) -> io::Result<()> {
+    print!(rt; " flowtime {flowtime} nodes {nodes} bound {bound} tasks")?;
+    for task in tasks {
+        print!(rt; " {task}")?;
     }
     Ok(())
-}
-
-fn print_tasks(rt: &impl Print, tasks: &[u8; 12]) -> io::Result<()> {
-    print!(rt; " tasks")?;
-    for i in 0..12usize {
-        task(rt, tasks[i])?;
-    }
-    Ok(())
-}
-
-// How many words there are up to the last that is not x.
-fn changed(out: &[u16; 3100], x: u16) -> usize
-    ensures { result ≤ 3100 }
-{
-    let mut n = 0;
-    for k in 0..3100usize {
-        n = further(n, k, out[k], x);
-    }
-    n
-}
-
-fn further(n: usize, k: usize, y: u16, x: u16) -> usize
-    requires { (n ≤ 3100) × (k < 3100) }
-    ensures { result ≤ 3100 }
-{
-    if x == y { n } else { k + 1 }
-}
-
-fn places(rt: &impl Print, out: &[u16; 3100], n: usize) -> io::Result<()>
-    requires { n ≤ 3100 }
-{
-    colon(rt, n)?;
-    for k in 0..n {
-        place(rt, out[k])?;
-    }
-    print!(rt; "\n")
-}
-
-fn colon(rt: &impl Print, n: usize) -> io::Result<()> {
-    if 0 < n {
-        print!(rt; ":")?;
-    }
-    Ok(())
-}
-
-fn place(rt: &impl Print, v: u16) -> io::Result<()> {
-    item(rt, v as u64)
-}
-
-fn task(rt: &impl Print, j: u8) -> io::Result<()> {
-    item(rt, j as u64)
-}
-
-fn item(rt: &impl Print, v: u64) -> io::Result<()> {
-    print!(rt; " {v}")
 }

@@ -1,8 +1,8 @@
 // What the test programs share: the values of a stored input one after the other, and lines of numbers.
 #![tactic(auto)]
 
-ghost use Rattle.std.specs.Prelude.{◌≡◌, ◌/◌, ◌≤◌, ◌∷◌, ◌++◌, IfSome, length, take};
-ghost use Rattle.std.specs.Int.{from_le_bytes, w16};
+ghost use Rattle.std.specs.Prelude.{◌≡◌, ◌≢◌, ℕ, ◌-◌, ◌/◌, ◌≤◌, ◌<◌, ◌∷◌, ◌++◌, IfSome, get_or, length, take};
+ghost use Rattle.std.specs.Int.{from_le_bytes, w16, w32};
 
 use std::io;
 
@@ -39,6 +39,15 @@ impl<'a> Stored<'a> {
         self.rest = rest;
         Some(u16::from_le_bytes(*bytes))
     }
+
+    // The next four-byte value, low byte first.
+    pub fn double_word(&mut self) -> Option<u32>
+        ensures { IfSome result (λ x. (x ≡ from_le_bytes w32 (take 4 self.old.rest.now)) × (self.old.rest.now ≡ take 4 self.old.rest.now ++ self.new.rest.now) × (4 ≤ length self.old.rest.now)) }
+    {
+        let (bytes, rest) = self.rest.split_first_chunk::<4>()?;
+        self.rest = rest;
+        Some(u32::from_le_bytes(*bytes))
+    }
 }
 
 // The two-byte values of the bytes, written to the start of `space`; none where there are more than fit.
@@ -59,4 +68,34 @@ pub fn print_line(rt: &impl Print, numbers: &[usize]) -> io::Result<()> {
         print!(rt; "{gap}{n}")?;
     }
     println!(rt; "")
+}
+
+// The words up to the last that is not the filler: how far a lent output was written.
+pub fn changed<'a>(words: &'a [u16], filler: u16) -> &'a [u16]
+    ensures start { result.now ≡ take (length result.now) words.now }
+    ensures filled { (k : ℕ) → length result.now ≤ k → k < length words.now → get_or words.now k 0 ≡ filler }
+    ensures last { 0 < length result.now → get_or words.now (length result.now - 1) 0 ≢ filler }
+{
+    let last = words.iter().rposition(|word| *word != filler);
+    &words[..last.map_or(0, |k| k + 1)]
+}
+
+// The changed words of an output, after a colon where there are any, to the end of the line.
+pub fn print_output(rt: &impl Print, words: &[u16], filler: u16) -> io::Result<()> {
+    let changed = changed(words, filler);
+    if !changed.is_empty() {
+        print!(rt; ":")?;
+    }
+    for word in changed {
+        print!(rt; " {word}")?;
+    }
+    println!(rt; "")
+}
+
+// Says so where a lent workspace is not as it was filled.
+pub fn print_workspace(rt: &impl Print, work: &[u32], filler: u32) -> io::Result<()> {
+    if work.iter().all(|word| *word == filler) {
+        return Ok(());
+    }
+    print!(rt; " workspace changed")
 }
