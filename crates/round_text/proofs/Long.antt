@@ -1,16 +1,12 @@
 -- Sheets longer than any accepted one: what follows their first bytes changes neither cause nor listing. Assumes nothing.
-use Prim.Native.Nat.{ℕ, zero, suc, ◌+◌, ◌-◌, ◌*◌, ◌%◌, ◌≤◌, ◌<◌}
-use mathlib.Core.Path.{◌≡◌, refl, ap, subst, ◌∙◌}
-use mathlib.Core.Bool.{Bool, true, false}
-use mathlib.Core.List.{List, ◌++◌}
-use native.Mathlib.Nat.{mul-le-mul}
-use native.Mathlib.Omega.{arith}
-use lib.Dec.{T}
-use lib.ListN.{length, length-append, get_or-append}
+use Rattle.std.proofs.Common.{ℕ, zero, suc, ◌+◌, ◌-◌, ◌*◌, ◌%◌, ◌≤◌, ◌<◌, ◌≡◌, refl, ap, subst, ◌∙◌, Bool, true, false, List, ◌++◌, mul-le-mul, arith, T, length, length-append, Option, Some}
+use lib.ListN.{get_or-append}
 use borrow.Author.Tests.{le-leb}
 use Rattle.deck.specs.Causes.{unless, ◌or_else◌}
 use Rattle.deck.specs.Lists.{below, all}
 use Rattle.deck.specs.Sheet.{byte_at, count_of, pair_at, grid_pair, starts_pair, task_pair, pairs_for, grid_stretch, starts_stretch, task_stretch, task, directory_end, chained, goals_size, good_header, good_directory, cause, sheet_cause}
+use Rattle.deck.specs.declared.cause.Cause.{Cause}
+use Rattle.deck.specs.declared.cause.Cause.TheVariants.{BadHeader, BadDirectory}
 use Rattle.deck.specs.Calls.{search_cause, search_answer_for, search_output_for, search_answer, search_output}
 use Rattle.deck.specs.Listing.{listing_for, listing}
 use Rattle.meaning.proofs.Tests.{Says, says_eqb, says_leb, says_and}
@@ -60,14 +56,14 @@ module _ (s : List ℕ) where
       let most = chained_most (count_of s) (task_pair 0) (directory_end s + (grid_stretch s).size + (starts_stretch s).size) (task_most d.1) starts in
       omega (arith, h.0.0.0.0.1.1, d.0.0.1, d.0.1, mul-le-mul h.0.0.0.0.0.0.1 h.0.0.0.0.0.1.1)
 
--- THE CAUSE of a longer sheet is 2 or 3, by its header
+-- THE CAUSE of a longer sheet is its header or its directory
 module _ (s : List ℕ) (long : longest < length s) where
-  by_header : (h d : Bool) (later : ℕ) → good_header s ≡ h → good_directory s ≡ d → (unless h 2 or_else unless d 3 or_else later) ≡ (unless h 2 or_else 3)
+  by_header : (h d : Bool) (later : Option Cause) → good_header s ≡ h → good_directory s ≡ d → (unless h BadHeader or_else unless d BadDirectory or_else later) ≡ (unless h BadHeader or_else Some BadDirectory)
   by_header false d later e f = refl
   by_header true false later e f = refl
   by_header true true later e f = absurd (omega (arith, at_most_longest s (rw e tt) (rw f tt)))
 
-  long_cause : sheet_cause s ≡ (unless (good_header s) 2 or_else 3)
+  long_cause : sheet_cause s ≡ (unless (good_header s) BadHeader or_else Some BadDirectory)
   unfolding cause
   long_cause = cause_with s (λ e. omega arith) ∙ rw (le-leb 8 (length s) (omega arith)) (by_header (good_header s) (good_directory s) _ refl refl)
 
@@ -79,7 +75,7 @@ header_same s rest h = rw (at 0 (omega arith), at 1 (omega arith), at 2 (omega a
     at k l = get_or-append s rest 0 k (omega arith)
 
 -- the listing of a refused sheet has its cause alone
-refused_same : (s t : List ℕ) (c : ℕ) → sheet_cause s ≡ suc c → sheet_cause t ≡ suc c → listing s ≡ listing t
+refused_same : (s t : List ℕ) (c : Cause) → sheet_cause s ≡ Some c → sheet_cause t ≡ Some c → listing s ≡ listing t
 unfolding listing search_answer search_output search_cause search_answer_for search_output_for listing_for
 refused_same s t c e f = rw (e, f) refl
 
@@ -87,11 +83,11 @@ refused_same s t c e f = rw (e, f) refl
 pub listing_long : (s rest : List ℕ) → longest < length s → listing s ≡ listing (s ++ rest)
 listing_long s rest long = go (good_header s) refl
   where
-    same : sheet_cause (s ++ rest) ≡ (unless (good_header s) 2 or_else 3)
+    same : sheet_cause (s ++ rest) ≡ (unless (good_header s) BadHeader or_else Some BadDirectory)
     same =
         long_cause (s ++ rest) (simp length-append (omega arith))
-        ∙ ap (λ h. unless h 2 or_else 3) (header_same s rest (omega arith))
+        ∙ ap (λ h. unless h BadHeader or_else Some BadDirectory) (header_same s rest (omega arith))
 
     go : (h : Bool) → good_header s ≡ h → listing s ≡ listing (s ++ rest)
-    go true e = refused_same s (s ++ rest) 2 (long_cause s long ∙ rw e refl) (same ∙ rw e refl)
-    go false e = refused_same s (s ++ rest) 1 (long_cause s long ∙ rw e refl) (same ∙ rw e refl)
+    go true e = refused_same s (s ++ rest) BadDirectory (long_cause s long ∙ rw e refl) (same ∙ rw e refl)
+    go false e = refused_same s (s ++ rest) BadHeader (long_cause s long ∙ rw e refl) (same ∙ rw e refl)

@@ -9,10 +9,10 @@ ghost use Rattle.deck.specs.Listing.{listing};
 ghost use Rattle.round_text.specs.Longest.{longest};
 ghost use Rattle.round_text.specs.LentWords.{LentWords};
 
-use deck::SearchAnswer;
+use deck::{Cause, SearchAnswer};
 
 // "It lends 16384 words of workspace and 3072 of output".
-fn answer(s: &[u8], work: &mut [u32], out: &mut [u16]) -> SearchAnswer
+fn answer(s: &[u8], work: &mut [u32], out: &mut [u16]) -> Result<SearchAnswer, Cause>
     requires { (length work.old ≡ 16384) × (length out.old ≡ 3072) }
     ensures { SearchCall s.now work.old out.old (search_numbers result) work.new out.new }
 {
