@@ -30,6 +30,8 @@ pub struct Open {
 
 // THE CHOICE
 
+// Kept: words, limit, nodes made and least keys as parameters: others write the words between these calls, so no type owns both.
+
 // The least of the keys: one pass without a branch.
 fn least(keys: &[u32]) -> u32
     ensures { LeastTo keys.now (length keys.now) result }

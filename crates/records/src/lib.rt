@@ -1,5 +1,6 @@
 // The records of the search's nodes in the lent workspace: record n at words 512 n to 512 n + 511, and past all `limit` records
 // a key for each node. Every field is read and written here and nowhere else.
+// Kept: fields at offsets, and nodes by their numbers: the workspace is words that C lends, in fixed memory.
 #![tactic(auto)]
 
 ghost use Rattle.std.specs.Prelude.{◌≡◌, [], ◌∷◌, ◌+◌, ◌-◌, ◌*◌, ◌<◌, ◌≤◌, length, get_or, set, sum as std_sum};
@@ -193,6 +194,7 @@ impl<'a> Record<'a> {
     }
 
     // Of a root: the row and the closed tasks of its part of the assignments.
+    // Kept: `row` beside `tournament`, and `closed` beside `tasks`: each clause names its field.
     pub fn row(&self) -> usize
         ensures { result ≡ row_in self.now }
     {
@@ -247,6 +249,9 @@ pub fn keys(work: &[u32], limit: usize, from: usize, until: usize) -> &[u32]
 }
 
 // WRITING
+
+// Kept: the lent words and `HasRecord`. A struct over the words proves, but each function that takes it must also ensure that it
+// holds the same words afterwards, and the clauses grow.
 
 // Writes where node n comes from.
 pub fn set_origin(work: &mut [u32], n: usize, origin: Origin)

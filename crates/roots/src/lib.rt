@@ -65,6 +65,7 @@ fn best_in(work: &[u32], m: usize, n: usize) -> Option<Choice>
     ensures { (result ≡ best_own m work.now n) × Inside (length work.now) result }
 {
     let row = Record::at(work, n).row();
+    // Kept: no `fold`, whose closure repeats what `better` requires.
     let mut best = None;
     for j in row..m {
         best = better(work, n, j, best);
@@ -74,7 +75,7 @@ fn best_in(work: &[u32], m: usize, n: usize) -> Option<Choice>
 
 // THE TOURNAMENT: under number k are 2 k + 1 and 2 k + 2, and a number's word has the first of its own slots and of those under it.
 
-// A choice as a number.
+// A choice as a number. Kept: two numbers in one word of the record, which is lent in fixed memory.
 fn code_of(b: Option<Choice>) -> usize
     requires { Below 4097 b }
     ensures { (result ≡ code_of b) × (result < 65560) }
