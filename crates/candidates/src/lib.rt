@@ -38,6 +38,7 @@ fn listed(m: usize, pairs: &Pairs) -> [u8; 12]
     ensures { result ≡ task_list (take m (task_numbers pairs.now.tasks)) }
 {
     let mut tasks = [255u8; 12];
+    // Kept: an index, since what stands past m in the pairs is not known.
     for i in 0..m {
         let task = pairs.tasks[i].unwrap();
         tasks[i] = task.0 as u8;
@@ -51,6 +52,7 @@ fn total(m: usize, t: &[u16; 144], tasks: &[u8; 12]) -> u64
     ensures { result ≡ cost m (λ i j. weigh_of (cell t.now i j)) tasks.now }
 {
     let mut sum: u64 = 0;
+    // Kept: an index, which names the carrier in the list and in the table.
     for i in 0..m {
         sum += weigh(entry(t, Carrier(i), task_of(tasks, Carrier(i))));
     }

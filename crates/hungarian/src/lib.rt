@@ -170,12 +170,13 @@ impl<'a> Tree<'a> {
         ensures relaxed { Relaxed self.old.problem.count self.old.problem.weights.now prices.now.rows prices.now.columns (marks self.old.columns) self.old.total row.0 (nears self.old.columns) (froms self.old.columns) (nears self.new.columns) (froms self.new.columns) }
         ensures closest { Closest (marks self.old.columns) (nears self.new.columns) self.old.problem.count result }
     {
+        // Kept: farther than every way, so that the inner loop tests no Option. There is a column outside the tree.
         let mut nearest = Edge {
             task: Task(0),
             near: u64::MAX,
         };
-        // Copies, which stay in registers. A marked column goes through the same steps, which leave it as it is: to pass over it took a
-        // third more time in all.
+        // Kept: an index, which names the column in the weights, the prices and the tree. The copies stay in registers. A marked column
+        // goes through the same steps, which leave it as it is: to pass over it took a third more time in all.
         let problem = self.problem;
         let total = self.total;
         for j in 0..problem.count {
@@ -253,6 +254,7 @@ impl Solution {
     {
         let mut tree = Tree::new(*problem, row);
         let mut task = tree.grow(&self.pairs, &mut self.prices);
+        // Kept: a count, since only the proof knows that each step goes to a column that joined the tree earlier.
         for _ in 0..12usize {
             let carrier = tree.columns[task.0].way.from;
             let next = self.pairs.tasks[carrier.0];
