@@ -1,5 +1,5 @@
 // The assignments in order, each the first of a slot of those before: a tournament of at most 8 roots, with 12 slots to a root.
-ghost use Rattle.std.specs.Prelude.{◌≡◌, ◌≤◌, ◌<◌, length};
+ghost use Rattle.std.specs.Prelude.{◌≤◌, ◌<◌};
 
 use crate::list;
 use candidates::Candidate;
@@ -37,19 +37,22 @@ fn slot_of(m: usize, t: &[u16; 144], root: &Part, j: Carrier) -> Option<Slot>
     })
 }
 
-// Writes the slots of a root.
-fn open(m: usize, t: &[u16; 144], root: &Part, slots: &mut [Option<Slot>])
-    requires { (m ≤ 12) × (length slots.old ≡ 12) }
+// The slots of a root.
+fn opened(m: usize, t: &[u16; 144], root: &Part) -> [Option<Slot>; 12]
+    requires { m ≤ 12 }
 {
+    let mut slots = [None; 12];
     for j in root.row.0..m {
         slots[j] = slot_of(m, t, root, Carrier(j));
     }
+    slots
 }
 
 // The slot whose first assignment comes first; it is taken out.
-fn take_first(slots: &mut [Option<Slot>; 96]) -> Option<Slot> {
+fn take_first(slots: &mut [[Option<Slot>; 12]; 8]) -> Option<Slot> {
     slots
         .iter_mut()
+        .flatten()
         .filter(|slot| slot.is_some())
         .min_by_key(|slot| slot.map(|s| s.first))?
         .take()
@@ -82,15 +85,15 @@ fn list_from(
         row: Carrier(0),
         closed: [0; 12],
     };
-    let mut slots = [None; 96];
-    open(m, t, &root, &mut slots[..12]);
+    let mut slots = [[None; 12]; 8];
+    slots[0] = opened(m, t, &root);
     for k in 1..most.min(8) {
         let Some(slot) = take_first(&mut slots) else {
             return Ok(());
         };
         print!(rt; "next ")?;
         list(rt, slot.first.sum as usize, &slot.first.tasks)?;
-        open(m, t, &slot.root(), &mut slots[12 * k..12 * k + 12]);
+        slots[k] = opened(m, t, &slot.root());
     }
     Ok(())
 }

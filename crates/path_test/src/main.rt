@@ -9,7 +9,7 @@
 
 ghost use Rattle.std.specs.Prelude.{◌<◌, OnSome, length};
 
-use deck::{Carrier, Cause, Task};
+use deck::{Carrier, Task};
 use std::io;
 use testing::Stored;
 
@@ -83,18 +83,13 @@ fn call(
 ) -> io::Result<()> {
     let filler = 65537 * u32::from(case.filler);
     work.fill(filler);
-    let answer = path::least_path(case.sheet, case.carrier, case.task, work, out, records);
-    report(rt, answer)?;
-    if answer.is_err() {
-        testing::print_workspace(rt, work, filler)?;
+    match path::least_path(case.sheet, case.carrier, case.task, work, out, records) {
+        Ok(Some(finish)) => print!(rt; "found {finish}")?,
+        Ok(None) => print!(rt; "none")?,
+        Err(cause) => {
+            print!(rt; "refused {}", u8::from(cause))?;
+            testing::print_workspace_change(rt, work, filler)?;
+        }
     }
     testing::print_output(rt, out, case.filler)
-}
-
-fn report(rt: &impl Print, answer: Result<Option<usize>, Cause>) -> io::Result<()> {
-    match answer {
-        Ok(Some(finish)) => print!(rt; "found {finish}"),
-        Ok(None) => print!(rt; "none"),
-        Err(cause) => print!(rt; "refused {}", u8::from(cause)),
-    }
 }

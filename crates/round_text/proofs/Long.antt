@@ -1,7 +1,7 @@
 -- Sheets longer than any accepted one: what follows their first bytes changes neither cause nor listing. Assumes nothing.
 use Rattle.std.proofs.Common.{ℕ, zero, suc, ◌+◌, ◌-◌, ◌*◌, ◌%◌, ◌≤◌, ◌<◌, ◌≡◌, refl, ap, subst, ◌∙◌, Bool, true, false, List, ◌++◌, mul-le-mul, arith, T, length, length-append, Option, Some}
-use lib.ListN.{get_or-append}
-use borrow.Author.Tests.{le-leb}
+use Rattle.std.proofs.lemmas.Bool.{le-leb}
+use Rattle.std.proofs.lemmas.List.{get_or_append_left}
 use Rattle.deck.specs.Causes.{unless, ◌or_else◌}
 use Rattle.deck.specs.Lists.{below, all}
 use Rattle.deck.specs.Sheet.{byte_at, count_of, pair_at, grid_pair, starts_pair, task_pair, pairs_for, grid_stretch, starts_stretch, task_stretch, task, directory_end, chained, goals_size, good_header, good_directory, cause, sheet_cause}
@@ -72,7 +72,7 @@ unfolding good_header
 header_same s rest h = rw (at 0 (omega arith), at 1 (omega arith), at 2 (omega arith), at 3 (omega arith), at 4 (omega arith), at 5 (omega arith), at 6 (omega arith), at 7 (omega arith)) refl
   where
     at : (k : ℕ) → k < 8 → byte_at (s ++ rest) k ≡ byte_at s k
-    at k l = get_or-append s rest 0 k (omega arith)
+    at k l = get_or_append_left s rest 0 k (omega arith)
 
 -- the listing of a refused sheet has its cause alone
 refused_same : (s t : List ℕ) (c : Cause) → sheet_cause s ≡ Some c → sheet_cause t ≡ Some c → listing s ≡ listing t

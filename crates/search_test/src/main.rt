@@ -11,7 +11,7 @@
 
 ghost use Rattle.std.specs.Prelude.{◌<◌, OnSome, length};
 
-use deck::{Cause, SearchAnswer};
+use deck::SearchAnswer;
 use std::io;
 use testing::Stored;
 
@@ -78,8 +78,8 @@ fn call(rt: &impl Print, case: &Case, work: &mut [u32], out: &mut [u16]) -> io::
     match search::search(case.sheet, work, out) {
         Ok(answer) => found(rt, answer)?,
         Err(cause) => {
-            refused(rt, cause)?;
-            testing::print_workspace(rt, work, case.work_filler)?;
+            print!(rt; "refused {}", u8::from(cause))?;
+            testing::print_workspace_change(rt, work, case.work_filler)?;
             numbers(rt, 0, 0, 0, &[255; 12])?;
         }
     }
@@ -106,10 +106,6 @@ fn found(rt: &impl Print, answer: SearchAnswer) -> io::Result<()> {
             numbers(rt, 0, nodes, bound, &[255; 12])
         }
     }
-}
-
-fn refused(rt: &impl Print, cause: Cause) -> io::Result<()> {
-    print!(rt; "refused {}", u8::from(cause))
 }
 
 fn numbers(

@@ -93,7 +93,7 @@ pub fn print_output(rt: &impl Print, words: &[u16], filler: u16) -> io::Result<(
 }
 
 // Says so where a lent workspace is not as it was filled.
-pub fn print_workspace(rt: &impl Print, work: &[u32], filler: u32) -> io::Result<()> {
+pub fn print_workspace_change(rt: &impl Print, work: &[u32], filler: u32) -> io::Result<()> {
     if work.iter().all(|word| *word == filler) {
         return Ok(());
     }
