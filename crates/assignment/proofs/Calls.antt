@@ -4,18 +4,13 @@ use Rattle.std.proofs.lemmas.Bool.{lt-leb}
 use lib.ListN.{get_or-replicate}
 use Rattle.deck.specs.Assignments.{least_assignment}
 use Rattle.deck.specs.Calls.{assignment_cause, least_for, sum_found, assignment_answer_for, assignment_tasks, ZeroFrom, AssignmentCall}
-use Rattle.deck.specs.Numbers.{found_numbers, assignment_numbers, tasks_told, rows_told, columns_told}
+use Rattle.deck.specs.Numbers.{assignment_numbers, sum_told, tasks_told, rows_told, columns_told}
 use Rattle.deck.specs.declared.Assignment.{Assignment}
 use Rattle.deck.specs.declared.cause.Cause.{Cause}
 use Rattle.deck.specs.declared.cause.Cause.TheVariants.{BadCount}
 use Rattle.meaning.proofs.Assignments.{least_assignment_lem}
 use Rattle.assignment.specs.Answers.{Answered}
-use Rattle.assignment.specs.Meant.{Meant, sum_told}
-
-numbers_told : (r : Result (Option Assignment) Cause) → assignment_numbers r ≡ found_numbers (sum_told r)
-numbers_told (Ok (Some a)) = refl
-numbers_told (Ok None) = refl
-numbers_told (Err c) = refl
+use Rattle.assignment.specs.Meant.{Meant}
 
 module _ (m : ℕ) (table : List ℕ) where
   -- THE CAUSE

@@ -2,7 +2,6 @@
 use Rattle.std.specs.Prelude.{ℕ, ◌≡◌, ◌⊎◌, List, take, Option, None, Some, Result, Ok, Err}
 use Rattle.deck.specs.Assignments.{sum_of}
 use Rattle.deck.specs.Calls.{assignment_cause}
-use Rattle.deck.specs.declared.Assignment.{Assignment}
 use Rattle.deck.specs.declared.cause.Cause.{Cause}
 use Rattle.meaning.specs.Meaning.{Unbarred, AllBarred, Less}
 
@@ -16,9 +15,3 @@ abbrev pub Meant : (m : ℕ) (table : List ℕ) → Result (Option ℕ) Cause �
 Meant m table (Ok (Some n)) tasks = (assignment_cause m table ≡ None) × First m table (take m tasks) n
 Meant m table (Ok None) tasks = (assignment_cause m table ≡ None) × AllBarred m table
 Meant m table (Err c) tasks = assignment_cause m table ≡ Some c
-
--- the sum that an answer has
-abbrev pub sum_told : Result (Option Assignment) Cause → Result (Option ℕ) Cause
-sum_told (Ok (Some a)) = Ok (Some a.sum)
-sum_told (Ok None) = Ok None
-sum_told (Err c) = Err c

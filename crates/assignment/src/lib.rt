@@ -4,8 +4,8 @@
 mod price;
 
 ghost use Rattle.deck.specs.Calls.{AssignmentCall};
-ghost use Rattle.deck.specs.Numbers.{assignment_numbers, tasks_told, rows_told, columns_told};
-ghost use Rattle.assignment.specs.Meant.{Meant, sum_told};
+ghost use Rattle.deck.specs.Numbers.{assignment_numbers, tasks_told, rows_told, columns_told, sum_told};
+ghost use Rattle.assignment.specs.Meant.{Meant};
 
 use deck::{Assignment, Cause};
 

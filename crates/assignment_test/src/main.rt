@@ -40,7 +40,7 @@ fn next_case<'a>(input: &mut Stored<'a>) -> Option<Case<'a>>
 
 fn answer(rt: &impl Print, case: Case) -> io::Result<()> {
     let mut space = [0u16; 169];
-    match testing::words(case.table, &mut space) {
+    match testing::read_words(case.table, &mut space) {
         Some(table) => report(rt, case.count, table, case.most),
         None => Ok(()),
     }

@@ -43,7 +43,7 @@ fn next_case<'a>(input: &mut Stored<'a>) -> Option<Case<'a>>
 
 fn answer(rt: &impl Print, case: Case) -> io::Result<()> {
     let mut space = [0u16; 4096];
-    match testing::words(case.words, &mut space) {
+    match testing::read_words(case.words, &mut space) {
         Some(words) => report(
             rt,
             collision::first_collision(case.count, case.horizon, words),

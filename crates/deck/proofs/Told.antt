@@ -4,10 +4,11 @@ use Rattle.std.proofs.Common.{ℕ, zero, suc, List, [], ◌∷◌, length, get_o
 use Rattle.deck.specs.Sheet.{read, carrier}
 use Rattle.deck.specs.Sheet.{read, carrier}
 use Rattle.deck.specs.Causes.{number}
-use Rattle.deck.specs.Calls.{path_cause, path_answer_for, PathCall, search_answer, SearchCall}
-use Rattle.deck.specs.Numbers.{found_numbers, path_numbers, collision_numbers, search_numbers}
+use Rattle.deck.specs.Calls.{path_cause, path_answer_for, PathCall, assignment_cause, assignment_answer_for, AssignmentCall, search_answer, SearchCall}
+use Rattle.deck.specs.Numbers.{found_numbers, path_numbers, assignment_numbers, sum_told, collision_numbers, search_numbers}
 use Rattle.deck.specs.declared.Carrier.{Carrier}
 use Rattle.deck.specs.declared.Task.{Task}
+use Rattle.deck.specs.declared.Assignment.{Assignment}
 use Rattle.deck.specs.declared.Collision.{Collision}
 use Rattle.deck.specs.declared.Collision.TheVariants.{Place, Move}
 use Rattle.deck.specs.declared.SearchAnswer.{SearchAnswer}
@@ -74,10 +75,25 @@ found_in_lem (Err c) = refused_case _ _ (λ k. Err (named k)) c (0 ∷ 0 ∷ [])
 pub found_told : {a b : Result (Option ℕ) Cause} → found_numbers a ≡ found_numbers b → a ≡ b
 found_told {a} {b} = told found_numbers found_in found_in_lem a b
 
+-- the numbers of an answer with an assignment are those of its sum
+pub sum_numbers : (a : Result (Option Assignment) Cause) → assignment_numbers a ≡ found_numbers (sum_told a)
+sum_numbers (Ok (Some a)) = refl
+sum_numbers (Ok None) = refl
+sum_numbers (Err c) = refl
+
 pub path_answered : {s : List ℕ} {i : Carrier} {j : Task} {work out rs work' out' : List ℕ} (a : Result (Option ℕ) Cause)
     → PathCall s i j work out rs (path_numbers a) work' out'
     → a ≡ path_answer_for (path_cause s i j (length work) (length out) rs) (read s) i j rs
 path_answered a c = found_told c.answered
+
+-- THE LEAST ASSIGNMENT: its sum, or none, or the cause
+pub assignment_told : (a b : Result (Option Assignment) Cause) → assignment_numbers a ≡ assignment_numbers b → sum_told a ≡ sum_told b
+assignment_told a b e = found_told (sym (sum_numbers a) ∙ e ∙ sum_numbers b)
+
+pub assignment_answered : {m : ℕ} {table tasks : List ℕ} {rows columns : List ℤ} (a : Result (Option Assignment) Cause)
+    → AssignmentCall m table (assignment_numbers a) tasks rows columns
+    → sum_told a ≡ assignment_answer_for (assignment_cause m table) m table
+assignment_answered a c = found_told (sym (sum_numbers a) ∙ c.answered)
 
 -- THE FIRST COLLISION
 abbrev collision_of : ℕ → (t i j u v : ℕ) → Collision

@@ -32,11 +32,17 @@ found_numbers (Err c) = refusal c 2
 abbrev pub path_numbers : Result (Option ℕ) Cause → List ℕ
 path_numbers = found_numbers
 
--- cause; 1 if there is an assignment; its sum. Its task list and its prices
+-- cause; 1 if there is an assignment; its sum
 abbrev pub assignment_numbers : Result (Option Assignment) Cause → List ℕ
 assignment_numbers (Ok (Some a)) = found_numbers (Ok (Some a.sum))
 assignment_numbers (Ok None) = found_numbers (Ok None)
 assignment_numbers (Err c) = found_numbers (Err c)
+
+-- an answer's sum, or none, or the cause; its task list; its prices
+abbrev pub sum_told : Result (Option Assignment) Cause → Result (Option ℕ) Cause
+sum_told (Ok (Some a)) = Ok (Some a.sum)
+sum_told (Ok None) = Ok None
+sum_told (Err c) = Err c
 
 abbrev pub tasks_told : Result (Option Assignment) Cause → List ℕ
 tasks_told (Ok (Some a)) = a.tasks

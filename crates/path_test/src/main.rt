@@ -65,7 +65,7 @@ fn next_case<'a>(input: &mut Stored<'a>) -> Option<Case<'a>>
 fn answer(rt: &impl Print, case: Case, work: &mut [u32]) -> io::Result<()> {
     let mut space = [0u16; 20490];
     let mut out = [case.filler; 300];
-    if let Some(records) = testing::words(case.records, &mut space)
+    if let Some(records) = testing::read_words(case.records, &mut space)
         && let Some(work) = work.get_mut(..case.room)
         && let Some(out) = out.get_mut(..case.places)
     {

@@ -44,7 +44,7 @@ fn next_case<'a>(input: &mut Stored<'a>) -> Option<Case<'a>>
 
 fn answer(rt: &impl Print, case: Case) -> io::Result<()> {
     let mut space = [0u16; 4096];
-    match testing::words(case.words, &mut space) {
+    match testing::read_words(case.words, &mut space) {
         Some(words) => report(rt, plan_check::check_plan(case.sheet, case.tasks, words)),
         None => Ok(()),
     }

@@ -13,8 +13,8 @@ use Rattle.meaning.proofs.Accepted.{cause_of_err}
 use Rattle.deck.specs.Sheet.{read, sheet_cause, task, count_of, pair_at, task_pair}
 use Rattle.deck.specs.Causes.{number, answer_unless}
 use Rattle.deck.specs.Calls.{workspace_of, goals_cause, goals_call, PathCall, assignment_cause, assignment_answer_for, AssignmentCall, search_answer, SearchCall}
-use Rattle.deck.specs.Numbers.{cause_number, found_numbers, path_numbers, assignment_numbers, search_numbers}
-use Rattle.deck.proofs.Told.{found_told, path_answered, search_answered}
+use Rattle.deck.specs.Numbers.{cause_number, found_numbers, path_numbers, assignment_numbers, sum_told, search_numbers}
+use Rattle.deck.proofs.Told.{path_answered, assignment_answered, search_answered}
 use Rattle.deck.specs.declared.Carrier.{Carrier}
 use Rattle.deck.specs.declared.Task.{Task}
 use Rattle.deck.specs.declared.Assignment.{Assignment}
@@ -23,7 +23,7 @@ use Rattle.deck.specs.declared.SearchAnswer.{SearchAnswer}
 use Rattle.meaning.specs.Meaning.{◌at◌}
 use Rattle.optimal.specs.Demand.{RightCall}
 use Rattle.path.specs.Meant.{Meant as PathMeant}
-use Rattle.assignment.specs.Meant.{Meant as AssignmentMeant, sum_told}
+use Rattle.assignment.specs.Meant.{Meant as AssignmentMeant}
 use Rattle.numbers.specs.Small.{SmallNumber, SmallAssignment, SmallSearch}
 use Rattle.planner.specs.Exports.{workspace_wanted, stretch_numbers, PathExport, AssignmentExport, InOrderExport, SearchExport, BoardExport}
 use Rattle.in_order.specs.Listed.{listed_for, InOrderCall}
@@ -72,28 +72,20 @@ module _ {s : List ℕ} {i : Carrier} {j : Task} {work out rs : List ℕ} (r : R
   }
 
 -- THE LEAST ASSIGNMENT
-sum_numbers : (r : Result (Option Assignment) Cause) → assignment_numbers r ≡ found_numbers (sum_told r)
-sum_numbers (Ok (Some a)) = refl
-sum_numbers (Ok None) = refl
-sum_numbers (Err c) = refl
-
 small_sum : (r : Result (Option Assignment) Cause) → SmallNumber (sum_told r) → SmallAssignment r
 small_sum (Ok (Some a)) h = h
 small_sum (Ok None) h = tt
 small_sum (Err c) h = tt
 
 module _ {m : ℕ} {table : List ℕ} (r : Result (Option Assignment) Cause) {tasks : List ℕ} {rows columns : List ℤ} where
-  sum_answered : AssignmentCall m table (assignment_numbers r) tasks rows columns → sum_told r ≡ assignment_answer_for (assignment_cause m table) m table
-  sum_answered a = found_told (sym (sum_numbers r) ∙ a.answered)
-
   pub kind_small : AssignmentCall m table (assignment_numbers r) tasks rows columns → ((i : ℕ) → table at i < 65536) → SmallAssignment r
-  kind_small a words = small_sum r (subst SmallNumber (sym (sum_answered a)) (assignment_small m table words))
+  kind_small a words = small_sum r (subst SmallNumber (sym (assignment_answered r a)) (assignment_small m table words))
 
   pub assignment_exported : {numbers : List ℕ} → AssignmentCall m table (assignment_numbers r) tasks rows columns → AssignmentMeant m table (sum_told r) tasks
       → numbers ≡ assignment_numbers r → AssignmentExport m table tasks rows columns numbers
   assignment_exported a q e = record {
     call = subst (λ l. AssignmentCall m table l tasks rows columns) (sym e) a;
-    meant = subst (λ x. AssignmentMeant m table x tasks) (sum_answered a) q;
+    meant = subst (λ x. AssignmentMeant m table x tasks) (assignment_answered r a) q;
   }
 
 -- THE ASSIGNMENTS IN ORDER

@@ -51,7 +51,7 @@ impl<'a> Stored<'a> {
 }
 
 // The two-byte values of the bytes, written to the start of `space`; none where there are more than fit.
-pub fn words<'a>(bytes: &[u8], space: &'a mut [u16]) -> Option<&'a [u16]>
+pub fn read_words<'a>(bytes: &[u8], space: &'a mut [u16]) -> Option<&'a [u16]>
     ensures { IfSome result (λ words. length words.now ≡ length bytes.now / 2) }
 {
     let words = space.get_mut(..bytes.len() / 2)?;
