@@ -2,7 +2,7 @@
 use Rattle.std.proofs.Common.{ℕ, zero, suc, ◌+◌, ◌*◌, ◌^◌, ◌≤◌, ◌<◌, List, [], ◌∷◌, length, get_or, take, drop, None, Result, Ok, Err, ◌≡◌, refl, ap, ◌∙◌, arith, length-append, length-take}
 use Rattle.std.proofs.lemmas.Fmt.{length-decimal-le}
 use Rattle.std.proofs.lemmas.List.{take_all, get_or-drop}
-use native.Mathlib.Nat.{suc-mul}
+use Rattle.std.proofs.Math.Nat.{suc-mul}
 use Rattle.deck.specs.Causes.{number}
 use Rattle.deck.specs.Lists.{path_of, count_from, each, pieces}
 use Rattle.deck.specs.Sheet.{Sheet, read, sheet_cause, count_of, horizon_of, task}

@@ -1,6 +1,5 @@
 -- `listing::plan` meets its contract: the first line and the lines of the carriers. Assumes nothing.
-use Rattle.std.proofs.Common.{◌≡◌, None}
-use borrow.Author.Rules.{rules}
+use Rattle.std.proofs.Common.{◌≡◌, None, rules}
 use Rattle.deck.specs.Sheet.{sheet_cause}
 use Rattle.deck.specs.Listing.{text, text_from}
 use Rattle.listing.proofs.Buffers.{appends_then}
