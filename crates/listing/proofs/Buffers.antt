@@ -82,21 +82,17 @@ wrote_part b l ys at e h f g =
             cut_later (length b) (e - at) (take at b) l (simp length-take (omega arith)) (simp length-take (omega arith))
 
 -- TEXTS
-pub appends_none : (a : Text) → a.written ≤ length a.buffer.now → Appends a [] a
-appends_none a h = record { same_buffer = refl; wrote = wrote_none a.buffer.now a.written h }
+pub appends_none : (a : Text) → Appends a [] a
+appends_none a = record { same_buffer = refl; wrote = wrote_none a.buffer.now a.written a.inside }
 
 module _ {a b : Text} {l : List ℕ} where
   pub appends_same : {k : List ℕ} → l ≡ k → Appends a l b → Appends a k b
   appends_same e v = rw (← e) v
 
   -- one text after another
-  pub appends_then : {c : Text} {k : List ℕ} → a.written ≤ length a.buffer.now → Appends a l b → Appends b k c → Appends a (l ++ k) c
-  appends_then h v w = record { same_buffer = w.same_buffer ∙ v.same_buffer; wrote = wrote_then h v.wrote w.wrote }
+  pub appends_then : {c : Text} {k : List ℕ} → Appends a l b → Appends b k c → Appends a (l ++ k) c
+  appends_then v w = record { same_buffer = w.same_buffer ∙ v.same_buffer; wrote = wrote_then a.inside v.wrote w.wrote }
 
   -- a label with its number comes as one text
-  pub appends_field : {c : Text} (k m : List ℕ) → a.written ≤ length a.buffer.now → Appends a l b → Appends b (k ++ m) c → Appends a (l ++ k ++ m) c
-  appends_field k m h v w = rw (append_assoc l k m) (appends_then h v w)
-
-  -- a text written after another is inside the buffer
-  pub appended_inside : Appends a l b → b.written ≤ length b.buffer.now
-  appended_inside v = omega (arith, v.wrote.inside, v.wrote.same)
+  pub appends_field : {c : Text} (k m : List ℕ) → Appends a l b → Appends b (k ++ m) c → Appends a (l ++ k ++ m) c
+  appends_field k m v w = rw (append_assoc l k m) (appends_then v w)

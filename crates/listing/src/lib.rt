@@ -17,7 +17,6 @@ use text::Text;
 
 // The line of one carrier: its number, its task, the finish of its path and the places.
 fn carrier(text: &mut Text, s: &[u8], i: Carrier, j: Task, path: &[u16])
-    requires { text.old.written ≤ length text.old.buffer.now }
     ensures { Appends text.old (carrier_line (read s.now) i.0 j.0 path.now) text.new }
 {
     text.field(b"carrier ", i.0);
@@ -40,7 +39,7 @@ fn piece(paths: &[u16], from: usize, n: usize) -> &[u16]
 
 // The lines of the carriers, whose paths stand one after the other.
 fn carriers(text: &mut Text, s: &[u8], tasks: &[u8; 12], paths: &[u16])
-    requires { (sheet_cause s.now ≡ None) × (text.old.written ≤ length text.old.buffer.now) }
+    requires { sheet_cause s.now ≡ None }
     ensures { Appends text.old (lines_of s.now tasks.now paths.now) text.new }
 {
     let n = sheet::horizon(s) + 1;
@@ -52,7 +51,6 @@ fn carriers(text: &mut Text, s: &[u8], tasks: &[u8; 12], paths: &[u16])
 
 // The first line of a plan, and the line of a search that is spent: a number and how many nodes were made.
 fn head(text: &mut Text, label: &[u8], n: usize, nodes: usize)
-    requires { text.old.written ≤ length text.old.buffer.now }
     ensures { Appends text.old (label.now ++ decimal n ++ bytes_of " nodes " ++ decimal nodes ++ bytes_of "\n") text.new }
 {
     text.field(label, n);
@@ -62,7 +60,6 @@ fn head(text: &mut Text, label: &[u8], n: usize, nodes: usize)
 
 // A line of one number.
 fn line(text: &mut Text, label: &[u8], n: usize)
-    requires { text.old.written ≤ length text.old.buffer.now }
     ensures { Appends text.old (label.now ++ decimal n ++ bytes_of "\n") text.new }
 {
     text.field(label, n);
@@ -71,7 +68,6 @@ fn line(text: &mut Text, label: &[u8], n: usize)
 
 // The listing of a plan; nothing where the sheet is not accepted.
 fn plan(text: &mut Text, s: &[u8], tasks: &[u8; 12], flowtime: usize, nodes: usize, paths: &[u16])
-    requires { text.old.written ≤ length text.old.buffer.now }
     ensures wrote { Appends text.old (plan_listed s.now tasks.now flowtime nodes paths.now) text.new }
     ensures numbers { (i : ℕ) → get_or tasks.now i 0 < 256 }
 {
@@ -83,7 +79,6 @@ fn plan(text: &mut Text, s: &[u8], tasks: &[u8; 12], flowtime: usize, nodes: usi
 
 // The listing of what a search came to, `paths` being the words of its output.
 fn found(text: &mut Text, s: &[u8], answer: SearchAnswer, paths: &[u16])
-    requires { text.old.written ≤ length text.old.buffer.now }
     ensures wrote { Appends text.old (listed s.now (Ok answer) paths.now) text.new }
     ensures numbers { Fits (Ok answer) }
 {
@@ -101,7 +96,6 @@ fn found(text: &mut Text, s: &[u8], answer: SearchAnswer, paths: &[u16])
 
 // The listing of the answer to the sheet s, `paths` being the words of its output.
 fn listing(text: &mut Text, s: &[u8], answer: Result<SearchAnswer, Cause>, paths: &[u16])
-    requires { text.old.written ≤ length text.old.buffer.now }
     ensures wrote { Appends text.old (listed s.now answer paths.now) text.new }
     ensures numbers { Fits answer }
 {

@@ -1,20 +1,21 @@
 // A lent buffer that is written from its start on.
 ghost use Rattle.std.specs.Prelude.{◌≡◌, ◌++◌, ◌≤◌, length};
 ghost use Rattle.deck.specs.Listing.{decimal, spaced};
-ghost use Rattle.listing.specs.Appends.{Appends};
 
 use itoa::Buffer;
 
-// What does not fit is cut off. Kept: that `written` is inside the buffer stands in the contracts, since a ghost field beside a `&mut`
-// has no generated proof; and the text is not written by `write!`, whose clauses say what is written only where its result is Ok, and
-// never that it is.
+// What does not fit is cut off. Kept: the text is not written by `write!`, whose clauses say what is written only where its result is
+// Ok, and never that it is.
 #[derive(Drop)]
 pub(crate) struct Text<'a> {
     buffer: &'a mut [u8],
     pub(crate) written: usize,
+    ghost inside: { written ≤ length buffer.now },
 }
 
 impl<'a> Text<'a> {
+    ghost use Rattle.listing.specs.Appends.{Appends};
+
     pub(crate) fn new(buffer: &'a mut [u8]) -> Self
         ensures same_buffer { result.buffer.ghost_name ≡ buffer.entry.ghost_name }
         ensures bytes { result.buffer.now ≡ buffer.old }
@@ -24,7 +25,6 @@ impl<'a> Text<'a> {
     }
 
     pub(crate) fn push(&mut self, bytes: &[u8])
-        requires { self.old.written ≤ length self.old.buffer.now }
         ensures { Appends self.old bytes.now self.new }
     {
         let end = self.buffer.len().min(self.written + bytes.len());
@@ -34,7 +34,6 @@ impl<'a> Text<'a> {
 
     // n in decimal.
     pub(crate) fn number(&mut self, n: usize)
-        requires { self.old.written ≤ length self.old.buffer.now }
         ensures { Appends self.old (decimal n) self.new }
     {
         self.push(Buffer::new().format(n).as_bytes());
@@ -42,7 +41,6 @@ impl<'a> Text<'a> {
 
     // A number with the text before it.
     pub(crate) fn field(&mut self, label: &[u8], n: usize)
-        requires { self.old.written ≤ length self.old.buffer.now }
         ensures { Appends self.old (label.now ++ decimal n) self.new }
     {
         self.push(label);
@@ -51,7 +49,6 @@ impl<'a> Text<'a> {
 
     // Numbers with a space between.
     pub(crate) fn spaced(&mut self, numbers: &[u16])
-        requires { self.old.written ≤ length self.old.buffer.now }
         ensures { Appends self.old (spaced numbers.now) self.new }
     {
         if let Some((first, others)) = numbers.split_first() {

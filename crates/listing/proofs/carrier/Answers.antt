@@ -8,11 +8,11 @@ pub returns : goal.returns
 unfolding carrier_line text text_from
 returns c =
     rw (sym c.finish_of.ensures)
-    (appends_then c.requires
-    (appends_then c.requires
-    (appends_then c.requires
-    (appends_field (text " finish ") (decimal c.finish_of.result) c.requires
-    (appends_field (text " task ") (decimal c.args.j.0) c.requires c.field.ensures c.field-2.ensures) c.field-3.ensures)
+    (appends_then
+    (appends_then
+    (appends_then
+    (appends_field (text " finish ") (decimal c.finish_of.result)
+    (appends_field (text " task ") (decimal c.args.j.0) c.field.ensures c.field-2.ensures) c.field-3.ensures)
     c.push.ensures)
     c.spaced.ensures)
     c.push-2.ensures)

@@ -6,4 +6,4 @@ use Rattle.listing.proofs.head.Goals as goal
 pub returns : goal.returns
 unfolding text text_from
 returns c =
-    appends_then c.requires (appends_field (text " nodes ") (decimal c.args.nodes) c.requires c.field.ensures c.field-2.ensures) c.push.ensures
+    appends_then (appends_field (text " nodes ") (decimal c.args.nodes) c.field.ensures c.field-2.ensures) c.push.ensures

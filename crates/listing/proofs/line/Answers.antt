@@ -5,4 +5,4 @@ use Rattle.listing.proofs.line.Goals as goal
 
 pub returns : goal.returns
 unfolding text text_from
-returns c = appends_then c.requires c.field.ensures c.push.ensures
+returns c = appends_then c.field.ensures c.push.ensures

@@ -7,4 +7,4 @@ use Rattle.listing.proofs.plan.Goals as goal
 
 pub returns-then-is_ok-clause-wrote : goal.returns-then-is_ok-clause-wrote
 unfolding text text_from
-returns-then-is_ok-clause-wrote c = let ok : sheet_cause c.args.s.now ≡ None = search rules in rw ok (appends_then c.requires c.head.ensures c.carriers.ensures)
+returns-then-is_ok-clause-wrote c = let ok : sheet_cause c.args.s.now ≡ None = search rules in rw ok (appends_then c.head.ensures c.carriers.ensures)

@@ -3,4 +3,4 @@ use Rattle.listing.proofs.Buffers.{appends_then}
 use Rattle.listing.proofs.text.Text.field.Goals as goal
 
 pub returns : goal.returns
-returns c = appends_then c.requires c.push.ensures c.number.ensures
+returns c = appends_then c.push.ensures c.number.ensures

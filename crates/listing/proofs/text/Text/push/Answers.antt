@@ -6,5 +6,5 @@ use Rattle.listing.proofs.text.Text.push.Goals as goal
 pub returns : goal.returns
 returns c = record {
   same_buffer = refl;
-  wrote = wrote_part c.args.self.now.buffer.now c.args.bytes.now _ c.args.self.now.written c.min-end.result c.requires c.min-end.ensures c.copy_from_slice.ensures.after;
+  wrote = wrote_part c.args.self.now.buffer.now c.args.bytes.now _ c.args.self.now.written c.min-end.result c.args.self.now.inside c.min-end.ensures c.copy_from_slice.ensures.after;
 }
