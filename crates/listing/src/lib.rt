@@ -5,7 +5,6 @@
 mod text;
 
 ghost use Rattle.std.specs.Prelude.{◌≡◌, ◌++◌, ◌+◌, ◌<◌, ◌≤◌, ℕ, length, get_or, take, drop, None};
-ghost use Rattle.deck.specs.Lists.{pieces};
 ghost use Rattle.deck.specs.Sheet.{read, sheet_cause};
 ghost use Rattle.deck.specs.Listing.{decimal, text as bytes_of, carrier_line, listing_for};
 ghost use Rattle.listing.specs.Wrote.{Wrote};
