@@ -1,26 +1,23 @@
--- What records say as constraints: which moves are barred, and how long a carrier is kept off its last goal. Assumes nothing.
-use Prim.Native.Nat.{ℕ, zero, suc, ◌+◌, ◌/◌, ◌≤◌, ◌<◌}
-use mathlib.Core.Path.{◌≡◌, refl, sym, ap₂, ◌∙◌, subst}
-use mathlib.Core.Logic.{◌≢◌}
-use mathlib.Core.Bool.{Bool, true, false}
-use mathlib.Core.List.{List, Memᴰ as Mem}
+-- What records say as constraints: the carrier's of a time are those that bar it then, and each is a record. Assumes nothing.
+use Rattle.std.proofs.Common.{ℕ, zero, suc, ◌/◌, ◌≤◌, ◌<◌, ◌≡◌, refl, sym, ap, ◌∙◌, subst, Bool, true, false, not, ◌&&◌, List, [], ◌∷◌, length, T, eqb}
+use Rattle.std.specs.List.{list_all}
+use mathlib.Core.List.{Memᴰ as Mem}
+use mathlib.Core.Bool.{false≢true}
+use mathlib.Core.List.Memᴰ.{head as here}
+use mathlib.Core.List.Memᴰ.{tail as there}
 use native.Mathlib.Nat.{le_antisymm}
-use native.Mathlib.Omega.{arith}
-use lib.ListN.{length}
-use lib.Dec.{T, eqb}
-use borrow.Author.Tests.{eq-eqb, ne_eqb}
-use Rattle.deck.specs.Lists.{below}
+use Rattle.deck.specs.Lists.{below, all}
 use Rattle.deck.specs.Sheet.{carrier}
 use Rattle.deck.specs.Calls.{record_word, constraint_of, constraint_at, constraints_of}
 use Rattle.deck.specs.declared.Constraint.{Constraint}
-use Rattle.meaning.proofs.Tests.{Says, says_eqb, says_and, says_not, is_true, is_false}
+use Rattle.meaning.proofs.Tests.{same_test}
 use Rattle.meaning.proofs.Lists.{mem_map, map_mem, mem_below}
-use Rattle.kernel.specs.Parts.{free_move, free_place, stay_after, stay_from}
-use Rattle.kernel.proofs.OfSheet.{LetsMove, LetsPlace, free_move_meant, free_place_meant}
+use Rattle.kernel.specs.Parts.{bars_move, bars_place, free_move, free_place, stay_after, stay_from}
+use Rattle.kernel.proofs.Both.{and_left, and_right}
 use Rattle.kernel.proofs.Least.{greatest_all, all_greatest}
 use Rattle.bars.specs.Padded.{pad_of}
-use Rattle.bars.specs.Bars.{count_in, own_at, moves_from, stands_on, slot_of, move_slot, place_slot}
-use Rattle.bars.proofs.Walks.{own_says}
+use Rattle.bars.specs.Bars.{count_in, own_at, OnLayer, OnPadded, ours_at, moves, stands_on}
+use Rattle.bars.proofs.Walks.{ours_mem, mem_ours}
 
 -- a record is a constraint of the list, and each constraint is a record
 pub record_mem : (rs : List ℕ) (k : ℕ) → k < count_in rs → Mem (constraint_at rs k) (constraints_of rs)
@@ -31,112 +28,97 @@ pub mem_record : (rs : List ℕ) (c : Constraint) → Mem c (constraints_of rs) 
 unfolding constraints_of
 mem_record rs c m = let r = mem_map (constraint_at rs) (below (length rs / 5)) m in (r.0, (mem_below (length rs / 5)).0 r.1, r.2)
 
-pub moves_says : (rs : List ℕ) (u v k : ℕ) → Says (moves_from rs u v k) ((¬ (record_word rs k 0 ≡ 0)) × ((record_word rs k 2 ≡ u) × (record_word rs k 3 ≡ v)))
-moves_says rs u v k = says_and (says_not says_eqb) (says_and says_eqb says_eqb)
-
-module _ (rs : List ℕ) (i t u v : ℕ) where
-  -- no record of the carrier at t bars the move: it is free
-  pub move_none : ((k : ℕ) → k < count_in rs → T (own_at rs i t k) → ¬ T (moves_from rs u v k)) → free_move (carrier i) (constraints_of rs) t u v ≡ true
-  move_none h = is_true (free_move (carrier i) (constraints_of rs) t u v) ((free_move_meant (carrier i) (constraints_of rs) t u v).test (λ c m.
-      let r = mem_record rs c m in subst (LetsMove (carrier i) t u v) (sym r.2) (lets r.0 r.1 (record_word rs r.0 0) refl)))
+-- a test that all pass, each does; and one that not all pass, one does not
+module _ {A : Type 0} (f : A → Bool) where
+  pub each_passes : (l : List A) → T (list_all (λ x. not (f x)) l) → (x : A) → Mem x l → ¬ T (f x)
+  each_passes [] t x m = elim m [ ]
+  each_passes (y ∷ l) t x (here e) = subst (λ (z : A). ¬ T (f z)) (sym e) (fails (f y) (and_left (not (f y)) _ t))
     where
-      lets : (k : ℕ) → k < count_in rs → (z : ℕ) → record_word rs k 0 ≡ z
-          → LetsMove (carrier i) t u v (constraint_of z (carrier (record_word rs k 1)) (record_word rs k 2) (record_word rs k 3) (record_word rs k 4))
-      lets k b zero e = tt
-      lets k b (suc z) e = λ p q x y. h k b ((own_says rs i t k).test (p, q)) ((moves_says rs u v k).test (λ n. omega arith, (sym x, sym y)))
+      fails : (b : Bool) → T (not b) → ¬ T b
+      fails true n = absurd n
+      fails false n = λ k. k
+  each_passes (y ∷ l) t x (there m) = each_passes l (and_right (not (f y)) _ t) x m
 
-  -- one does: it is not
-  pub move_some : (k : ℕ) → k < count_in rs → T (own_at rs i t k) → T (moves_from rs u v k) → free_move (carrier i) (constraints_of rs) t u v ≡ false
-  move_some k b o m = is_false (free_move (carrier i) (constraints_of rs) t u v) (λ f.
-      bars (record_word rs k 0) refl ((free_move_meant (carrier i) (constraints_of rs) t u v).fact f (constraint_at rs k) (record_mem rs k b)))
+  pub all_pass : (l : List A) → ((x : A) → Mem x l → ¬ T (f x)) → T (list_all (λ x. not (f x)) l)
+  all_pass [] h = tt
+  all_pass (y ∷ l) h = go (f y) (h y (here refl)) (all_pass l (λ x m. h x (there m)))
     where
-      bars : (z : ℕ) → record_word rs k 0 ≡ z
-          → LetsMove (carrier i) t u v (constraint_of z (carrier (record_word rs k 1)) (record_word rs k 2) (record_word rs k 3) (record_word rs k 4)) → ⊥
-      bars zero e l = ((moves_says rs u v k).fact m).0 e
-      bars (suc z) e l =
-          let p = (own_says rs i t k).fact o in
-          let q = ((moves_says rs u v k).fact m).1 in
-          l p.0 p.1 (sym q.0) (sym q.1)
+      go : (b : Bool) → ¬ T b → T (list_all (λ x. not (f x)) l) → T (not b && list_all (λ x. not (f x)) l)
+      go true n r = absurd (n tt)
+      go false n r = r
 
--- a record of the carrier at t bars the place: it is not free
-pub place_some : (rs : List ℕ) (i t v k : ℕ) → k < count_in rs → T (own_at rs i t k) → record_word rs k 0 ≡ 0 → record_word rs k 2 ≡ v
-    → free_place (carrier i) (constraints_of rs) t v ≡ false
-place_some rs i t v k b o e f = is_false (free_place (carrier i) (constraints_of rs) t v) (λ h.
-    bars (record_word rs k 0) refl ((free_place_meant (carrier i) (constraints_of rs) t v).fact h (constraint_at rs k) (record_mem rs k b)))
-  where
-    bars : (z : ℕ) → record_word rs k 0 ≡ z
-        → LetsPlace (carrier i) t v (constraint_of z (carrier (record_word rs k 1)) (record_word rs k 2) (record_word rs k 3) (record_word rs k 4)) → ⊥
-    bars zero q l = let p = (own_says rs i t k).fact o in l p.0 p.1 (sym f)
-    bars (suc z) q l = omega arith
-
-pub stands_says : (rs : List ℕ) (v k : ℕ) → Says (stands_on rs v k) ((record_word rs k 0 ≡ 0) × (record_word rs k 2 ≡ v))
-stands_says rs v k = says_and says_eqb says_eqb
-
--- no record of the carrier at t does: it is
-pub place_none : (rs : List ℕ) (i t v : ℕ) → ((k : ℕ) → k < count_in rs → T (own_at rs i t k) → ¬ T (stands_on rs v k)) → free_place (carrier i) (constraints_of rs) t v ≡ true
-place_none rs i t v h = is_true (free_place (carrier i) (constraints_of rs) t v) ((free_place_meant (carrier i) (constraints_of rs) t v).test (λ c m.
-    let r = mem_record rs c m in subst (LetsPlace (carrier i) t v) (sym r.2) (lets r.0 r.1 (record_word rs r.0 0) refl)))
-  where
-    lets : (k : ℕ) → k < count_in rs → (z : ℕ) → record_word rs k 0 ≡ z
-        → LetsPlace (carrier i) t v (constraint_of z (carrier (record_word rs k 1)) (record_word rs k 2) (record_word rs k 3) (record_word rs k 4))
-    lets k b zero e = λ p q x. h k b ((own_says rs i t k).test (p, q)) ((stands_says rs v k).test (e, sym x))
-    lets k b (suc z) e = tt
-
--- the test of one record, by its words
-pub stands_no : (rs : List ℕ) (v k : ℕ) → record_word rs k 0 ≢ 0 → false ≡ stands_on rs v k
-stands_no rs v k n = rw (ne_eqb (record_word rs k 0) 0 n) refl
-
-pub stands_at : (rs : List ℕ) (v k : ℕ) → record_word rs k 0 ≡ 0 → eqb (record_word rs k 2) v ≡ stands_on rs v k
-stands_at rs v k e = rw (eq-eqb (record_word rs k 0) 0 e) refl
-
--- The time after which a record lets the carrier stay
-module _ (rs : List ℕ) (i g k : ℕ) where
-  abbrev Stays : ℕ → Type 0
-  Stays n = n ≡ stay_after (carrier i) g (constraint_at rs k)
-
-  stays : (z : ℕ) → record_word rs k 0 ≡ z → {n : ℕ}
-      → n ≡ stay_after (carrier i) g (constraint_of z (carrier (record_word rs k 1)) (record_word rs k 2) (record_word rs k 3) (record_word rs k 4)) → Stays n
-  stays z e {n} h = rw e h
-
-  pub stay_other : record_word rs k 1 ≢ i → Stays 0
-  stay_other h = go (record_word rs k 0) refl
+  pub one_fails : (l : List A) → list_all (λ x. not (f x)) l ≡ false → (x : A) × Mem x l × T (f x)
+  one_fails [] e = absurd (false≢true (sym e))
+  one_fails (y ∷ l) e = go (f y) refl e (one_fails l)
     where
-      no_own : eqb (record_word rs k 1) i ≡ false
-      no_own = ne_eqb (record_word rs k 1) i h
+      go : (b : Bool) → f y ≡ b → (not b && list_all (λ x. not (f x)) l) ≡ false → (list_all (λ x. not (f x)) l ≡ false → (x : A) × Mem x l × T (f x))
+          → (x : A) × Mem x (y ∷ l) × T (f x)
+      go true q h ih = (y, here refl, subst T (sym q) tt)
+      go false q h ih = let r = ih h in (r.0, there r.1, r.2)
 
-      go : (z : ℕ) → record_word rs k 0 ≡ z → Stays 0
-      go zero e = stays zero e (rw no_own refl)
-      go (suc z) e = stays (suc z) e (rw no_own refl)
+  all_is : (l : List A) → all f l ≡ list_all f l
+  all_is [] = refl
+  all_is (y ∷ l) = ap (λ (b : Bool). f y && b) (all_is l)
 
-  pub stay_elsewhere : record_word rs k 2 ≢ g → Stays 0
-  stay_elsewhere h = go (record_word rs k 0) refl (eqb (record_word rs k 1) i) refl
+module _ (rs : List ℕ) (i t : ℕ) where
+  -- a test of the constraints that only the carrier's at t can fail
+  all_ours : (f g : Constraint → Bool) → ((k : ℕ) → f (constraint_at rs k) ≡ (own_at rs i t k && g (constraint_at rs k)))
+      → all (λ c. not (f c)) (constraints_of rs) ≡ list_all (λ c. not (g c)) (ours_at rs i t)
+  all_ours f g same = all_is (λ c. not (f c)) (constraints_of rs) ∙ same_test _ _
+      (λ h. all_pass g (ours_at rs i t) (λ c m x.
+      let r = ours_mem rs i t (count_in rs) m in
+      each_passes f (constraints_of rs) h (constraint_at rs r.0) (record_mem rs r.0 r.1)
+      (subst T (sym (same r.0)) (both (own_at rs i t r.0) _ r.2 (subst (λ (z : Constraint). T (g z)) r.3 x)))))
+      (λ h. all_pass f (constraints_of rs) (λ c m x.
+      let r = mem_record rs c m in
+      let y : T (own_at rs i t r.0 && g (constraint_at rs r.0)) = subst T (ap f r.2 ∙ same r.0) x in
+      each_passes g (ours_at rs i t) h (constraint_at rs r.0) (mem_ours rs i t (count_in rs) r.0 r.1 (and_left (own_at rs i t r.0) _ y)) (and_right (own_at rs i t r.0) _ y)))
     where
-      no_place : eqb (record_word rs k 2) g ≡ false
-      no_place = ne_eqb (record_word rs k 2) g h
+      both : (a b : Bool) → T a → T b → T (a && b)
+      both true b x y = y
+      both false b x y = absurd x
 
-      go : (z : ℕ) → record_word rs k 0 ≡ z → (b : Bool) → eqb (record_word rs k 1) i ≡ b → Stays 0
-      go zero e true f = stays zero e (rw (f, no_place) refl)
-      go zero e false f = stays zero e (rw f refl)
-      go (suc z) e true f = stays (suc z) e (rw (f, no_place) refl)
-      go (suc z) e false f = stays (suc z) e (rw f refl)
+  -- which moves and places the carrier's constraints leave free
+  pub move_ours : (u v : ℕ) → free_move (carrier i) (constraints_of rs) t u v ≡ list_all (λ c. not (moves u v c)) (ours_at rs i t)
+  unfolding free_move
+  move_ours u v = all_ours (bars_move (carrier i) t u v) (moves u v) (λ k. go k (record_word rs k 0))
+    where
+      and_assoc : (a b c : Bool) → (a && b && c) ≡ (a && (b && c))
+      and_assoc true b c = refl
+      and_assoc false b c = refl
 
-  module _ (own : record_word rs k 1 ≡ i) (on : record_word rs k 2 ≡ g) where
-    pub stay_place : record_word rs k 0 ≡ 0 → Stays (suc (record_word rs k 4))
-    stay_place e = stays zero e (rw (eq-eqb (record_word rs k 1) i own, eq-eqb (record_word rs k 2) g on) refl)
+      no : (a : Bool) → false ≡ (a && false)
+      no true = refl
+      no false = refl
 
-    pub stay_gone : record_word rs k 0 ≢ 0 → record_word rs k 3 ≢ g → Stays 0
-    stay_gone n h = go (record_word rs k 0) refl
-      where
-        go : (z : ℕ) → record_word rs k 0 ≡ z → Stays 0
-        go zero e = absurd (n e)
-        go (suc z) e = stays (suc z) e (rw (eq-eqb (record_word rs k 1) i own, eq-eqb (record_word rs k 2) g on, ne_eqb (record_word rs k 3) g h) refl)
+      go : (k z : ℕ) → let c : Constraint = constraint_of z (carrier (record_word rs k 1)) (record_word rs k 2) (record_word rs k 3) (record_word rs k 4) in
+          bars_move (carrier i) t u v c ≡ (own_at rs i t k && moves u v c)
+      go k zero = no (own_at rs i t k)
+      go k (suc z) = and_assoc (own_at rs i t k) (eqb u (record_word rs k 2)) (eqb v (record_word rs k 3))
 
-    pub stay_wait : record_word rs k 0 ≢ 0 → record_word rs k 3 ≡ g → Stays (suc (record_word rs k 4))
-    stay_wait n h = go (record_word rs k 0) refl
-      where
-        go : (z : ℕ) → record_word rs k 0 ≡ z → Stays (suc (record_word rs k 4))
-        go zero e = absurd (n e)
-        go (suc z) e = stays (suc z) e (rw (eq-eqb (record_word rs k 1) i own, eq-eqb (record_word rs k 2) g on, eq-eqb (record_word rs k 3) g h) refl)
+  pub place_ours : (v : ℕ) → free_place (carrier i) (constraints_of rs) t v ≡ list_all (λ c. not (stands_on v c)) (ours_at rs i t)
+  unfolding free_place
+  place_ours v = all_ours (bars_place (carrier i) t v) (stands_on v) (λ k. go k (record_word rs k 0))
+    where
+      no : (a : Bool) → false ≡ (a && false)
+      no true = refl
+      no false = refl
+
+      go : (k z : ℕ) → let c : Constraint = constraint_of z (carrier (record_word rs k 1)) (record_word rs k 2) (record_word rs k 3) (record_word rs k 4) in
+          bars_place (carrier i) t v c ≡ (own_at rs i t k && stands_on v c)
+      go k zero = refl
+      go k (suc z) = no (own_at rs i t k)
+
+  -- the places of each are indexes of a layer
+  pub ours_on : (w : ℕ) → OnLayer w rs → (c : Constraint) → Mem c (ours_at rs i t) → OnPadded w c
+  ours_on w on c m =
+      let r = ours_mem rs i t (count_in rs) m in
+      subst (OnPadded w) (sym r.3) (go r.0 (on r.0 r.1) (record_word rs r.0 0))
+    where
+      go : (k : ℕ) → (record_word rs k 2 < 1024) × (record_word rs k 3 < 1024) × (pad_of w (record_word rs k 2) < 1156) × (pad_of w (record_word rs k 3) < 1156)
+          → (z : ℕ) → OnPadded w (constraint_of z (carrier (record_word rs k 1)) (record_word rs k 2) (record_word rs k 3) (record_word rs k 4))
+      go k h zero = (h.0, h.2)
+      go k h (suc z) = h
 
 -- the least bound of the times of all records
 pub stay_is : (rs : List ℕ) (i g s : ℕ) → ((k : ℕ) → k < count_in rs → stay_after (carrier i) g (constraint_at rs k) ≤ s)
@@ -146,34 +128,3 @@ unfolding stay_from
 stay_is rs i g s up least = le_antisymm
     (least _ (λ k h. greatest_all (map_mem (stay_after (carrier i) g) (record_mem rs k h))))
     (all_greatest _ s (λ x m. let r = mem_map (stay_after (carrier i) g) (constraints_of rs) m in let q = mem_record rs r.0 r.1 in rw (r.2, q.2) (up q.0 q.1)))
-
--- the test of one record, by its words
-module _ (rs : List ℕ) (u v k : ℕ) where
-  pub moves_place : record_word rs k 0 ≡ 0 → false ≡ moves_from rs u v k
-  moves_place e = rw (eq-eqb (record_word rs k 0) 0 e) refl
-
-  module _ (n : record_word rs k 0 ≢ 0) where
-    pub moves_else : record_word rs k 2 ≢ u → false ≡ moves_from rs u v k
-    moves_else h = rw (ne_eqb (record_word rs k 0) 0 n, ne_eqb (record_word rs k 2) u h) refl
-
-    pub moves_to : record_word rs k 2 ≡ u → eqb (record_word rs k 3) v ≡ moves_from rs u v k
-    moves_to h = rw (ne_eqb (record_word rs k 0) 0 n, eq-eqb (record_word rs k 2) u h) refl
-
--- the slots of one record, by its words
-module _ (rs : List ℕ) (w k : ℕ) where
-  pub slot_unread : (back : Bool) → record_word rs k 0 ≡ 0 → 5780 ≡ move_slot rs w back k
-  slot_unread back e = rw (eq-eqb (record_word rs k 0) 0 e) refl
-
-  pub slot_back : {a b : ℕ} (back : Bool) → record_word rs k 0 ≢ 0 → a ≡ pad_of w (record_word rs k 2) → b ≡ pad_of w (record_word rs k 3) → back ≡ true
-      → slot_of (w + 2) b a ≡ move_slot rs w back k
-  slot_back back n e f g = ap₂ (slot_of (w + 2)) f e ∙ rw (ne_eqb (record_word rs k 0) 0 n, g) refl
-
-  pub slot_forth : {a b : ℕ} (back : Bool) → record_word rs k 0 ≢ 0 → a ≡ pad_of w (record_word rs k 2) → b ≡ pad_of w (record_word rs k 3) → back ≡ false
-      → slot_of (w + 2) a b ≡ move_slot rs w back k
-  slot_forth back n e f g = ap₂ (slot_of (w + 2)) e f ∙ rw (ne_eqb (record_word rs k 0) 0 n, g) refl
-
-  pub slot_place : record_word rs k 0 ≡ 0 → pad_of w (record_word rs k 2) ≡ place_slot rs w k
-  slot_place e = rw (eq-eqb (record_word rs k 0) 0 e) refl
-
-  pub slot_border : record_word rs k 0 ≢ 0 → 0 ≡ place_slot rs w k
-  slot_border n = rw (ne_eqb (record_word rs k 0) 0 n) refl

@@ -1,67 +1,25 @@
 -- What is cleared along a chain is what the carrier's constraints bar. Assumes nothing.
-use Prim.Native.Nat.{ℕ, zero, suc, ◌+◌, ◌<◌}
-use mathlib.Core.Path.{◌≡◌, refl, sym, ap, ◌∙◌, subst}
-use mathlib.Core.Bool.{Bool, true, false, cond, not, ◌&&◌, false≢true}
+use Rattle.std.proofs.Common.{ℕ, zero, suc, ◌+◌, ◌≤◌, ◌<◌, ◌≡◌, refl, sym, ap, ◌∙◌, subst, Bool, true, false, cond, not, List, [], ◌∷◌, length, get_or, Option, Some, None, T, eqb, arith}
+use Rattle.std.specs.List.{list_all}
+use mathlib.Core.List.{Memᴰ as Mem}
+use mathlib.Core.Logic.{◌⊎◌, inl, inr}
 use mathlib.Core.List.Memᴰ.{head as here}
 use mathlib.Core.List.Memᴰ.{tail as there}
-use mathlib.Core.List.{List, [], ◌∷◌, Memᴰ as Mem}
 use native.Mathlib.Decide.{ℕ_discrete}
-use native.Mathlib.Omega.{arith}
-use lib.ListN.{get_or}
-use lib.Dec.{T, eqb}
+use lib.ListN.{set, length-set, get_or-eq_default}
+use lib.Seq.{get_or-set_same, get_or-set_other}
 use borrow.Author.Tests.{eqb-true}
-use Rattle.deck.specs.Lists.{all}
 use Rattle.deck.specs.Sheet.{carrier}
-use Rattle.deck.specs.Calls.{record_word, constraint_of, constraints_of}
+use Rattle.deck.specs.Calls.{constraints_of}
 use Rattle.deck.specs.declared.Constraint.{Constraint}
+use Rattle.deck.specs.declared.Constraint.TheVariants.{Place, Move}
 use Rattle.meaning.proofs.Tests.{says_eqb, says_and}
-use Rattle.kernel.specs.Parts.{bars_place, bars_move, free_place, free_move}
+use Rattle.kernel.specs.Parts.{free_place, free_move}
+use Rattle.kernel.proofs.Choice.{lt_or_ge}
 use Rattle.bars.specs.Padded.{pad_of}
-use Rattle.bars.specs.Bars.{count_in, own_at, moves_from, way_of, slot_of, move_slot, place_slot, Cleared}
-use Rattle.bars.proofs.Walks.{own_says}
-use Rattle.bars.proofs.Records.{mem_record, moves_says, move_some, place_some, slot_unread, slot_back, slot_forth, slot_place, slot_border}
+use Rattle.bars.specs.Bars.{OnLayer, OnPadded, ours_at, moves, stands_on, way_of, slot_of, move_slot, place_slot, SlotIn, Cleared}
+use Rattle.bars.proofs.Records.{each_passes, one_fails, move_ours, place_ours, ours_on}
 use Rattle.bars.proofs.Grid.{pad_inj}
-
--- a test that not all pass, one does not
-not_all : {A : Type 0} (f : A → Bool) (l : List A) → all (λ x. not (f x)) l ≡ false → (x : A) × Mem x l × T (f x)
-not_all f [] e = absurd (false≢true (sym e))
-not_all {A} f (x ∷ l) e = go (f x) refl e (not_all f l)
-  where
-    go : (b : Bool) → f x ≡ b → (not b && all (λ x. not (f x)) l) ≡ false → (all (λ x. not (f x)) l ≡ false → (y : A) × Mem y l × T (f y))
-        → (y : A) × Mem y (x ∷ l) × T (f y)
-    go true q h ih = (x, here refl, subst T (sym q) tt)
-    go false q h ih = let r = ih h in (r.0, there r.1, r.2)
-
-module _ (rs : List ℕ) (i t : ℕ) where
-  -- a move that is not free is barred by a record of the carrier
-  pub move_find : (u v : ℕ) → free_move (carrier i) (constraints_of rs) t u v ≡ false → (k : ℕ) × (k < count_in rs) × T (own_at rs i t k) × T (moves_from rs u v k)
-  unfolding free_move
-  move_find u v e =
-      let r = not_all (bars_move (carrier i) t u v) (constraints_of rs) e in
-      let q = mem_record rs r.0 r.1 in
-      go q.0 q.1 (record_word rs q.0 0) refl (subst (λ (c : Constraint). T (bars_move (carrier i) t u v c)) q.2 r.2)
-    where
-      go : (k : ℕ) → k < count_in rs → (z : ℕ) → record_word rs k 0 ≡ z
-          → T (bars_move (carrier i) t u v (constraint_of z (carrier (record_word rs k 1)) (record_word rs k 2) (record_word rs k 3) (record_word rs k 4)))
-          → (k : ℕ) × (k < count_in rs) × T (own_at rs i t k) × T (moves_from rs u v k)
-      go k b zero e h = absurd h
-      go k b (suc z) e h =
-          let f = (says_and (says_and (says_and says_eqb says_eqb) says_eqb) says_eqb).fact h in
-          (k, b, (own_says rs i t k).test (f.0.0.0, f.0.0.1), (moves_says rs u v k).test (λ n. omega arith, (sym f.0.1, sym f.1)))
-
-  -- a place that is not free is barred by a record of the carrier
-  pub place_find : (v : ℕ) → free_place (carrier i) (constraints_of rs) t v ≡ false → (k : ℕ) × (k < count_in rs) × T (own_at rs i t k) × (record_word rs k 0 ≡ 0) × (record_word rs k 2 ≡ v)
-  unfolding free_place
-  place_find v e =
-      let r = not_all (bars_place (carrier i) t v) (constraints_of rs) e in
-      let q = mem_record rs r.0 r.1 in
-      go q.0 q.1 (record_word rs q.0 0) refl (subst (λ (c : Constraint). T (bars_place (carrier i) t v c)) q.2 r.2)
-    where
-      go : (k : ℕ) → k < count_in rs → (z : ℕ) → record_word rs k 0 ≡ z
-          → T (bars_place (carrier i) t v (constraint_of z (carrier (record_word rs k 1)) (record_word rs k 2) (record_word rs k 3) (record_word rs k 4)))
-          → (k : ℕ) × (k < count_in rs) × T (own_at rs i t k) × (record_word rs k 0 ≡ 0) × (record_word rs k 2 ≡ v)
-      go k b zero e h = let f = (says_and (says_and says_eqb says_eqb) says_eqb).fact h in (k, b, (own_says rs i t k).test (f.0.0, f.0.1), e, sym f.1)
-      go k b (suc z) e h = absurd h
 
 -- The way between two padded places says where it comes from
 abbrev Came : ℕ → ℕ → ℕ → ℕ → Type 0
@@ -117,51 +75,130 @@ kept_if : (b : Bool) (after before : ℕ) → (b ≡ true → after ≡ before) 
 kept_if true after before h g = h refl
 kept_if false after before h g = g refl
 
+-- Clearing one slot after the other
+module _ (n : ℕ) (slot : Constraint → ℕ) where
+  abbrev pub clear_all : List Constraint → List ℕ → List ℕ
+  clear_all [] x = x
+  clear_all (c ∷ cs) x = clear_all cs (set x (slot c) 0)
+
+  pub cleared_all : (cs : List Constraint) (x : List ℕ) → length x ≡ n → Cleared slot cs x (clear_all cs x)
+  cleared_all [] x e = record { size = refl; gone = λ c m. elim m [ ]; same = λ y h. refl; less = λ y. omega arith }
+  cleared_all (c ∷ cs) x e =
+      let r = cleared_all cs (set x (slot c) 0) (length-set x (slot c) 0 ∙ e) in
+      record {
+        size = r.size ∙ length-set x (slot c) 0;
+        gone = λ y m. at_one r y m;
+        same = λ y h. r.same y (λ z m. h z (there m)) ∙ get_or-set_other x (slot c) y 0 0 (λ q. h c (here refl) (sym q));
+        less = λ y. by_slot r y (ℕ_discrete y (slot c));
+      }
+    where
+      zero_at : get_or (set x (slot c) 0) (slot c) 0 ≡ 0
+      zero_at = zero_set (lt_or_ge (slot c) (length x))
+        where
+          zero_set : (slot c < length x) ⊎ (length x ≤ slot c) → get_or (set x (slot c) 0) (slot c) 0 ≡ 0
+          zero_set (inl h) = get_or-set_same x (slot c) 0 0 h
+          zero_set (inr h) = get_or-eq_default (set x (slot c) 0) 0 (omega (arith, length-set x (slot c) 0))
+
+      at_one : Cleared slot cs (set x (slot c) 0) (clear_all cs (set x (slot c) 0)) → (y : Constraint) → Mem y (c ∷ cs) → get_or (clear_all cs (set x (slot c) 0)) (slot y) 0 ≡ 0
+      at_one r y (here q) = rw q (omega (arith, r.less (slot c), zero_at))
+      at_one r y (there m) = r.gone y m
+
+      by_slot : Cleared slot cs (set x (slot c) 0) (clear_all cs (set x (slot c) 0)) → (y : ℕ) → Dec (y ≡ slot c) → get_or (clear_all cs (set x (slot c) 0)) y 0 ≤ get_or x y 0
+      by_slot r y (yes q) = rw q (omega (arith, r.less (slot c), zero_at))
+      by_slot r y (no q) = omega (arith, r.less y, get_or-set_other x (slot c) y 0 0 q)
+
+  -- while a walk clears: what is left to clear comes to the whole, which clears a list of n entries
+  pub record Clearing (w : ℕ) (rest : List Constraint) (now whole : List ℕ) : Type 0 where
+    pub on : (c : Constraint) → Mem c rest → OnPadded w c
+    pub size : length now ≡ n
+    pub comes : clear_all rest now ≡ whole
+
+  pub clearing_begins : (w : ℕ) {rest cs : List Constraint} {x : List ℕ} → rest ≡ cs → ((c : Constraint) → Mem c cs → OnPadded w c) → length x ≡ n → Clearing w rest x (clear_all cs x)
+  clearing_begins w {x} e on size = record { on = λ c m. on c (subst (Mem c) e m); size = size; comes = ap (λ l. clear_all l x) e }
+
+  module _ (w : ℕ) {rest next : List Constraint} {c : Constraint} {now whole : List ℕ} (h : Clearing w rest now whole) (e : rest ≡ c ∷ next) where
+    pub first_on : OnPadded w c
+    first_on = h.on c (subst (Mem c) (sym e) (here refl))
+
+    -- a turn that writes, as the list has the slot, and one that does not
+    pub one_cleared : {x : ℕ} → x ≡ slot c → Clearing w next (set now x 0) whole
+    one_cleared {x} f = record {
+      on = λ b m. h.on b (subst (Mem b) (sym e) (there m));
+      size = length-set now x 0 ∙ h.size;
+      comes = rw f (sym (ap (λ l. clear_all l now) e) ∙ h.comes);
+    }
+
+    pub none_cleared : n ≤ slot c → Clearing w next now whole
+    none_cleared past = record {
+      on = λ b m. h.on b (subst (Mem b) (sym e) (there m));
+      size = h.size;
+      comes = ap (clear_all next) (sym (set_past now (slot c) (omega (arith, h.size)))) ∙ sym (ap (λ l. clear_all l now) e) ∙ h.comes;
+    }
+      where
+        set_past : (l : List ℕ) (k : ℕ) → length l ≤ k → set l k 0 ≡ l
+        set_past [] k h = refl
+        set_past (z ∷ l) zero h = absurd (omega arith)
+        set_past (z ∷ l) (suc k) h = ap (λ r. z ∷ r) (set_past l k (omega arith))
+
+  pub all_cleared : (w : ℕ) {rest : List Constraint} {now : List ℕ} (cs : List Constraint) (x : List ℕ) → Clearing w rest now (clear_all cs x) → length x ≡ n → rest ≡ [] → Cleared slot cs x now
+  all_cleared w {now} cs x h size e = subst (Cleared slot cs x) (sym h.comes ∙ ap (λ l. clear_all l now) e) (cleared_all cs x size)
+
+-- no slot is none of the list
+pub no_slot : {n x : ℕ} {r : Option ℕ} → SlotIn n x r → ((y : ℕ) → r ≡ Some y → ⊥) → n ≤ x
+no_slot {r = None} h not = h
+no_slot {r = Some y} h not = absurd (not y refl)
+
 module _ (rs : List ℕ) (i t w : ℕ) (z : 0 < w) (before after : List ℕ) where
   -- the move that comes to the place v from u, or goes from v to u
   abbrev pub move_by : Bool → ℕ → ℕ → Bool
   move_by back u v = cond back (free_move (carrier i) (constraints_of rs) t v u) (free_move (carrier i) (constraints_of rs) t u v)
 
+  -- what a slot is where the constraints that have it are those that fail a test
+  by_slots : (slot : Constraint → ℕ) (test : Constraint → Bool) (free : Bool) → free ≡ list_all (λ c. not (test c)) (ours_at rs i t) → (x : ℕ)
+      → ((c : Constraint) → Mem c (ours_at rs i t) → slot c ≡ x → T (test c)) → ((c : Constraint) → Mem c (ours_at rs i t) → T (test c) → slot c ≡ x)
+      → Cleared slot (ours_at rs i t) before after → get_or after x 0 ≡ cond free (get_or before x 0) 0
+  by_slots slot test free e x hits has c = kept_if free _ _
+      (λ f. c.same x (λ b m q. each_passes test (ours_at rs i t) (subst T (sym (sym e ∙ f)) tt) b m (hits b m q)))
+      (λ f. let r = one_fails test (ours_at rs i t) (sym e ∙ f) in subst (λ (y : ℕ). get_or after y 0 ≡ 0) (has r.0 r.1 r.2) (c.gone r.0 r.1))
+
   -- after the carrier's ways at t are shut, the mask of a way is what it was where the move is free, and else 0
-  pub way_shut : (back : Bool) (u v : ℕ) → pad_of w u < 1156 → pad_of w v < 1156 → way_of (w + 2) (pad_of w u) (pad_of w v) < 5
-      → ((k : ℕ) → k < count_in rs → (pad_of w (record_word rs k 2) < 1156) × (pad_of w (record_word rs k 3) < 1156))
-      → Cleared rs i t (move_slot rs w back) 0 before after
+  pub way_shut : (back : Bool) (u v : ℕ) → pad_of w u < 1156 → pad_of w v < 1156 → way_of (w + 2) (pad_of w u) (pad_of w v) < 5 → OnLayer w rs
+      → Cleared (move_slot w back) (ours_at rs i t) before after
       → get_or after (slot_of (w + 2) (pad_of w u) (pad_of w v)) 0 ≡ cond (move_by back u v) (get_or before (slot_of (w + 2) (pad_of w u) (pad_of w v)) 0) 0
-  way_shut true u v a b l on c = kept_if (free_move (carrier i) (constraints_of rs) t v u) _ _
-      (λ e. c.same _ (λ r _ h o q. hits r h o e q (ℕ_discrete (record_word rs r 0) 0)))
-      (λ e. let m = move_find rs i t v u e in let f = (moves_says rs v u m.0).fact m.3 in
-      subst (λ (x : ℕ). get_or after x 0 ≡ 0)
-      (sym (slot_back rs w m.0 true f.0 (ap (pad_of w) (sym f.1.0)) (ap (pad_of w) (sym f.1.1)) refl))
-      (c.gone m.0 (omega arith) m.1 m.2))
+  way_shut true u v a b l on = by_slots (move_slot w true) (moves v u) _ (move_ours rs i t v u) _
+      (λ c m. hits c (ours_on rs i t w on c m)) (λ c m. has c)
     where
-      hits : (r : ℕ) → r < count_in rs → T (own_at rs i t r) → free_move (carrier i) (constraints_of rs) t v u ≡ true
-          → move_slot rs w true r ≡ slot_of (w + 2) (pad_of w u) (pad_of w v) → Dec (record_word rs r 0 ≡ 0) → ⊥
-      hits r h o e q (yes k) = omega (arith, slot_unread rs w r true k)
-      hits r h o e q (no k) =
-          let s = slot_inj (w + 2) (pad_of w (record_word rs r 3)) (pad_of w (record_word rs r 2)) (pad_of w u) (pad_of w v) (on r h).0 b l (slot_back rs w r true k refl refl refl ∙ q) in
-          false≢true (sym (move_some rs i t v u r h o ((moves_says rs v u r).test (k, (pad_inj w (record_word rs r 2) v z s.1, pad_inj w (record_word rs r 3) u z s.0)))) ∙ e)
-  way_shut false u v a b l on c = kept_if (free_move (carrier i) (constraints_of rs) t u v) _ _
-      (λ e. c.same _ (λ r _ h o q. hits r h o e q (ℕ_discrete (record_word rs r 0) 0)))
-      (λ e. let m = move_find rs i t u v e in let f = (moves_says rs u v m.0).fact m.3 in
-      subst (λ (x : ℕ). get_or after x 0 ≡ 0)
-      (sym (slot_forth rs w m.0 false f.0 (ap (pad_of w) (sym f.1.0)) (ap (pad_of w) (sym f.1.1)) refl))
-      (c.gone m.0 (omega arith) m.1 m.2))
+      hits : (c : Constraint) → OnPadded w c → move_slot w true c ≡ slot_of (w + 2) (pad_of w u) (pad_of w v) → T (moves v u c)
+      hits (Place j x s) p q = absurd (omega arith)
+      hits (Move j x y s) p q =
+          let s = slot_inj (w + 2) (pad_of w y) (pad_of w x) (pad_of w u) (pad_of w v) p.2 b l q in
+          (says_and says_eqb says_eqb).test (sym (pad_inj w x v z s.1), sym (pad_inj w y u z s.0))
+
+      has : (c : Constraint) → T (moves v u c) → move_slot w true c ≡ slot_of (w + 2) (pad_of w u) (pad_of w v)
+      has (Place j x s) h = absurd h
+      has (Move j x y s) h = let f = (says_and (says_eqb {a = v} {b = x}) (says_eqb {a = u} {b = y})).fact h in rw (← f.0, ← f.1) refl
+  way_shut false u v a b l on = by_slots (move_slot w false) (moves u v) _ (move_ours rs i t u v) _
+      (λ c m. hits c (ours_on rs i t w on c m)) (λ c m. has c)
     where
-      hits : (r : ℕ) → r < count_in rs → T (own_at rs i t r) → free_move (carrier i) (constraints_of rs) t u v ≡ true
-          → move_slot rs w false r ≡ slot_of (w + 2) (pad_of w u) (pad_of w v) → Dec (record_word rs r 0 ≡ 0) → ⊥
-      hits r h o e q (yes k) = omega (arith, slot_unread rs w r false k)
-      hits r h o e q (no k) =
-          let s = slot_inj (w + 2) (pad_of w (record_word rs r 2)) (pad_of w (record_word rs r 3)) (pad_of w u) (pad_of w v) (on r h).1 b l (slot_forth rs w r false k refl refl refl ∙ q) in
-          false≢true (sym (move_some rs i t u v r h o ((moves_says rs u v r).test (k, (pad_inj w (record_word rs r 2) u z s.0, pad_inj w (record_word rs r 3) v z s.1)))) ∙ e)
+      hits : (c : Constraint) → OnPadded w c → move_slot w false c ≡ slot_of (w + 2) (pad_of w u) (pad_of w v) → T (moves u v c)
+      hits (Place j x s) p q = absurd (omega arith)
+      hits (Move j x y s) p q =
+          let s = slot_inj (w + 2) (pad_of w x) (pad_of w y) (pad_of w u) (pad_of w v) p.3 b l q in
+          (says_and says_eqb says_eqb).test (sym (pad_inj w x u z s.0), sym (pad_inj w y v z s.1))
+
+      has : (c : Constraint) → T (moves u v c) → move_slot w false c ≡ slot_of (w + 2) (pad_of w u) (pad_of w v)
+      has (Place j x s) h = absurd h
+      has (Move j x y s) h = let f = (says_and (says_eqb {a = u} {b = x}) (says_eqb {a = v} {b = y})).fact h in rw (← f.0, ← f.1) refl
 
   -- after the carrier's places at t are cleared, a label is what it was where the place is free, and else 0
-  pub place_cleared : (v : ℕ) → Cleared rs i t (place_slot rs w) 0 before after
+  pub place_cleared : (v : ℕ) → pad_of w v < 1156 → Cleared (place_slot w) (ours_at rs i t) before after
       → get_or after (pad_of w v) 0 ≡ cond (free_place (carrier i) (constraints_of rs) t v) (get_or before (pad_of w v) 0) 0
-  place_cleared v c = kept_if (free_place (carrier i) (constraints_of rs) t v) _ _
-      (λ e. c.same _ (λ r _ h o q. hits r h o e q (ℕ_discrete (record_word rs r 0) 0)))
-      (λ e. let m = place_find rs i t v e in
-      subst (λ (x : ℕ). get_or after x 0 ≡ 0) (sym (slot_place rs w m.0 m.3) ∙ ap (pad_of w) m.4) (c.gone m.0 (omega arith) m.1 m.2))
+  place_cleared v l = by_slots (place_slot w) (stands_on v) _ (place_ours rs i t v) _ (λ c m. hits c) (λ c m. has c)
     where
-      hits : (r : ℕ) → r < count_in rs → T (own_at rs i t r) → free_place (carrier i) (constraints_of rs) t v ≡ true → place_slot rs w r ≡ pad_of w v → Dec (record_word rs r 0 ≡ 0) → ⊥
-      hits r h o e q (yes k) = false≢true (sym (place_some rs i t v r h o k (pad_inj w (record_word rs r 2) v z (slot_place rs w r k ∙ q))) ∙ e)
-      hits r h o e q (no k) = omega (arith, slot_border rs w r k)
+      hits : (c : Constraint) → place_slot w c ≡ pad_of w v → T (stands_on v c)
+      hits (Place j x s) q = (says_eqb).test (sym (pad_inj w x v z q))
+      hits (Move j x y s) q = absurd (omega arith)
+
+      has : (c : Constraint) → T (stands_on v c) → place_slot w c ≡ pad_of w v
+      has (Place j x s) h = ap (pad_of w) (sym (says_eqb.fact h))
+      has (Move j x y s) h = absurd h

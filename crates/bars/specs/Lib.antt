@@ -1,3 +1,4 @@
 pub mod Padded
 pub mod Ways
 pub mod Bars
+pub mod Rest

@@ -1,7 +1,29 @@
 -- The five ways of a step: above, left, to the place itself, right, below. Assumes nothing.
-use Rattle.std.specs.Prelude.{ℕ, zero, suc, ◌+◌, ◌-◌, ◌*◌, ◌/◌, ◌%◌, ◌^◌, Bool, true, cond, ◌||◌, eqb}
+use Rattle.std.specs.Prelude.{ℕ, zero, suc, ◌+◌, ◌-◌, ◌*◌, ◌/◌, ◌%◌, ◌^◌, Bool, true, false, cond, Option, None, Some, ◌||◌, eqb}
 use Rattle.deck.specs.Sheet.{Sheet, grid_byte}
 use Rattle.kernel.specs.Near.{has_above, has_left, has_right, has_below}
+use Rattle.bars.specs.declared.Direction.{Direction}
+use Rattle.bars.specs.declared.Direction.TheVariants.{Forward, Backward}
+use Rattle.bars.specs.declared.Way.{Way}
+use Rattle.bars.specs.declared.Way.TheVariants.{Above, Left, Same, Right, Below}
+
+-- a way's number
+abbrev pub number_of : Way → ℕ
+number_of Above = 0
+number_of Left = 1
+number_of Same = 2
+number_of Right = 3
+number_of Below = 4
+
+-- and 5 for none
+abbrev pub number_if : Option Way → ℕ
+number_if None = 5
+number_if (Some x) = number_of x
+
+-- a pass that goes backward
+abbrev pub is_back : Direction → Bool
+is_back Forward = false
+is_back Backward = true
 
 -- how far the way x leads on a grid of width w, plus w
 abbrev pub turn_of : ℕ → ℕ → ℕ

@@ -3,317 +3,379 @@
 // 50 or 4096.
 #![tactic(auto)]
 
-ghost use Rattle.std.specs.Prelude.{◌≡◌, cond, ℕ, suc, ◌+◌, ◌*◌, ◌/◌, ◌<◌, ◌≤◌, length, eqb};
-ghost use Rattle.deck.specs.Calls.{record_word, constraint_at, constraints_of};
+ghost use Rattle.std.specs.Prelude.{◌≡◌, ℕ, Bool, true, cond, suc, ◌+◌, ◌*◌, ◌/◌, ◌<◌, ◌≤◌, length, eqb};
+ghost use Rattle.deck.specs.Calls.{record_word, constraint_of, constraint_at, constraints_of};
 ghost use Rattle.kernel.specs.Parts.{free_move, free_place, stay_after, stay_from};
-ghost use Rattle.bars.specs.Padded.{pad_of};
-ghost use Rattle.bars.specs.Ways.{opens_by, turn_of};
-ghost use Rattle.bars.specs.Bars.{count_in, Chained, Timely, OnLayer, Cleared, way_of, slot_of, move_slot, place_slot, moves_from, stands_on};
+ghost use Rattle.bars.specs.Padded.{pad_of, row_of, end_of, words_of};
+ghost use Rattle.bars.specs.Ways.{number_of, number_if, is_back, opens_by, turn_of, move_by, way_back};
+ghost use Rattle.bars.specs.Bars.{count_in, Timely, OnLayer, OnPadded, OnTime, Chained, moves, stands_on, ours, ours_at, way_of, slot_of, move_slot, place_slot, SlotIn, Cleared};
 
-use deck::Carrier;
+use deck::{Carrier, Constraint};
 
-// The padded number of the place v.
-pub fn pad(w: usize, v: usize) -> usize
-    requires { (1 ≤ w) × (w ≤ 32) × (v < 1024) }
-    ensures { result ≡ pad_of w v }
-{
-    v + 2 * (v / w) + w + 3
+// The places of the padded grid: at most 34 rows of 34.
+pub const CELLS: usize = 1156;
+
+// A number for each place of the padded grid.
+pub type Layer = [u8; 1156];
+
+// Such a layer for each of the five ways, one after the other.
+pub type Ways = [u8; 5780];
+
+// The size of a grid: that of an accepted sheet.
+#[derive(Clone, Copy, Debug, PartialEq, Eq)]
+pub struct Size {
+    pub width: usize,
+    pub height: usize,
+    pub ghost wide: { (1 ≤ width) × (width ≤ 32) },
+    pub ghost high: { (1 ≤ height) × (height ≤ 32) },
 }
 
-// How far the way x leads on a grid of width w, plus w: above, left, to the place itself, right, below.
-pub fn turn(w: usize, x: usize) -> usize
-    requires { (1 ≤ w) × (w ≤ 34) × (x < 5) }
-    ensures { (result ≡ turn_of w x) × (result ≤ 68) }
-{
-    if x == 0 {
-        return 0;
+impl Size {
+    // The padded number of the place v.
+    pub fn pad(self, v: usize) -> usize
+        requires { v < 1024 }
+        ensures { result ≡ pad_of self.width v }
+    {
+        v + 2 * (v / self.width) + self.width + 3
     }
-    if x == 1 {
-        return w - 1;
+
+    // The length of a padded row.
+    pub fn row(self) -> usize
+        ensures { result ≡ row_of self.width }
+    {
+        self.width + 2
     }
-    if x == 2 {
-        return w;
+
+    // The padded place from which on there are only places past the grid.
+    pub fn end(self) -> usize
+        ensures { result ≡ end_of self.width self.height }
+    {
+        (self.width + 2) * (self.height + 1)
     }
-    if x == 3 {
-        return w + 1;
-    }
-    2 * w
-}
 
-// A place with the byte m of the mask may be left by the way x.
-pub fn opens(m: u8, x: usize) -> bool
-    requires { x < 5 }
-    ensures { result ≡ opens_by m x }
-{
-    (m >> x) % 2 == 1
-}
-
-fn wide16(x: u16) -> usize
-    ensures { (result ≡ x) × (result < 65536) }
-{
-    x as usize
-}
-
-fn wide32(x: u32) -> usize
-    ensures { result ≡ x }
-{
-    x as usize
-}
-
-fn link_of(x: u16) -> u32
-    ensures { result ≡ x }
-{
-    x as u32
-}
-
-// The word n of the record k.
-fn word(records: &[u16], k: usize, n: usize) -> usize
-    requires { (k < 4096) × (n < 5) × (k < count_in records.now) }
-    ensures { (result ≡ record_word records.now k n) × (result < 65536) }
-{
-    wide16(records[5 * k + n])
-}
-
-// The head of the chain once the record k is looked at: the record, where it is the carrier's own.
-fn newer(records: &[u16], i: Carrier, k: usize, h: u16) -> u16
-    requires { (k < 4096) × (k < count_in records.now) }
-    ensures { result ≡ cond (eqb (record_word records.now k 1) i.0) (suc k) h }
-{
-    if word(records, k, 1) == i.0 {
-        (k + 1) as u16
-    } else {
-        h
+    // How many words of four bytes the rows of the grid take.
+    pub fn words(self) -> usize
+        ensures { result ≡ words_of self.width self.height }
+    {
+        ((self.width + 2) * self.height + 3) / 4
     }
 }
 
-// The chains of the carrier i: the heads by time are returned, the links stand in the lent words.
-pub fn chains(records: &[u16], i: Carrier, links: &mut [u32]) -> [u16; 256]
-    requires { Timely records.now × (count_in records.now ≤ 4096) × (count_in records.now ≤ length links.old) }
-    ensures { Chained records.now i.0 result links.new }
-{
-    let n = records.len() / 5;
-    let mut heads = [0u16; 256];
-    for k in 0..n {
-        let t = word(records, k, 4);
-        let h = heads[t];
-        links[k] = link_of(h);
-        heads[t] = newer(records, i, k, h);
-    }
-    heads
+// The ways of a step, in the order of the places that they lead to.
+#[derive(Clone, Copy, Debug, PartialEq, Eq)]
+pub enum Way {
+    Above,
+    Left,
+    Same,
+    Right,
+    Below,
 }
 
-// The way by which a step from the padded place a comes to b.
-fn way(wide: usize, a: usize, b: usize) -> usize
-    requires { (wide ≤ 34) × (a < 1156) × (b < 1156) }
-    ensures { (result ≡ way_of wide a b) × (result < 6) }
-{
-    if a + wide == b {
-        return 0;
-    }
-    if a + 1 == b {
-        return 1;
-    }
-    if a == b {
-        return 2;
-    }
-    if a == b + 1 {
-        return 3;
-    }
-    if a == b + wide {
-        return 4;
-    }
-    5
-}
+impl Way {
+    pub const ALL: [Way; 5] = [Way::Above, Way::Left, Way::Same, Way::Right, Way::Below];
 
-fn slot(wide: usize, a: usize, b: usize) -> usize
-    requires { (wide ≤ 34) × (a < 1156) × (b < 1156) }
-    ensures { (result ≡ slot_of wide a b) × (result < 6936) }
-{
-    1156 * way(wide, a, b) + b
-}
-
-// The slot of the ways that the record k bars.
-fn move_slot(records: &[u16], k: usize, w: usize, back: bool) -> usize
-    requires { (1 ≤ w) × (w ≤ 32) × (k < 4096) × (k < count_in records.now) × OnLayer w records.now }
-    ensures { (result ≡ move_slot records.now w back k) × (result < 6936) }
-{
-    if word(records, k, 0) == 0 {
-        return 5780;
-    }
-    let a = pad(w, word(records, k, 2));
-    let b = pad(w, word(records, k, 3));
-    if back {
-        slot(w + 2, b, a)
-    } else {
-        slot(w + 2, a, b)
-    }
-}
-
-// The padded place that the record k bars.
-fn place_slot(records: &[u16], k: usize, w: usize) -> usize
-    requires { (1 ≤ w) × (w ≤ 32) × (k < 4096) × (k < count_in records.now) × OnLayer w records.now }
-    ensures { (result ≡ place_slot records.now w k) × (result < 1156) }
-{
-    if word(records, k, 0) == 0 {
-        pad(w, word(records, k, 2))
-    } else {
-        0
-    }
-}
-
-// Shuts the ways that the carrier's move constraints bar at t.
-pub fn shut(
-    records: &[u16],
-    i: Carrier,
-    heads: &[u16; 256],
-    links: &[u32],
-    t: usize,
-    w: usize,
-    back: bool,
-    ways: &mut [u8; 6936],
-)
-    requires { (1 ≤ w) × (w ≤ 32) × (t < 256) × (count_in records.now ≤ 4096) × OnLayer w records.now × Chained records.now i.0 heads.now links.now × (length ways.old ≡ 6936) }
-    ensures { Cleared records.now i.0 t (move_slot records.now w back) 0 ways.old ways.new }
-{
-    let mut k = wide16(heads[t]);
-    while 0 < k {
-        let r = k - 1;
-        let x = move_slot(records, r, w, back);
-        ways[x] = 0;
-        k = wide32(links[r]);
-    }
-}
-
-// Takes the labels off the places that the carrier's place constraints bar at t.
-pub fn clear(
-    records: &[u16],
-    i: Carrier,
-    heads: &[u16; 256],
-    links: &[u32],
-    t: usize,
-    w: usize,
-    layer: &mut [u8; 1156],
-)
-    requires { (1 ≤ w) × (w ≤ 32) × (t < 256) × (count_in records.now ≤ 4096) × OnLayer w records.now × Chained records.now i.0 heads.now links.now × (length layer.old ≡ 1156) }
-    ensures { Cleared records.now i.0 t (place_slot records.now w) 0 layer.old layer.new }
-{
-    let mut k = wide16(heads[t]);
-    while 0 < k {
-        let r = k - 1;
-        let x = place_slot(records, r, w);
-        layer[x] = 0;
-        k = wide32(links[r]);
-    }
-}
-
-// The record k bars the move from u to v.
-fn bars(records: &[u16], k: usize, u: usize, v: usize) -> bool
-    requires { (k < 4096) × (k < count_in records.now) }
-    ensures { result ≡ moves_from records.now u v k }
-{
-    if word(records, k, 0) == 0 {
-        return false;
-    }
-    if word(records, k, 2) != u {
-        return false;
-    }
-    word(records, k, 3) == v
-}
-
-// The carrier may go from u to v at t, as far as its move constraints say.
-pub fn move_free(
-    records: &[u16],
-    i: Carrier,
-    heads: &[u16; 256],
-    links: &[u32],
-    t: usize,
-    u: usize,
-    v: usize,
-) -> bool
-    requires { (t < 256) × (count_in records.now ≤ 4096) × Chained records.now i.0 heads.now links.now }
-    ensures { result ≡ free_move i (constraints_of records.now) t u v }
-{
-    let mut k = wide16(heads[t]);
-    while 0 < k {
-        let r = k - 1;
-        if bars(records, r, u, v) {
-            return false;
+    // How far the way leads in rows of this width, plus the width.
+    pub fn turn(self, width: usize) -> usize
+        requires { (1 ≤ width) × (width ≤ 34) }
+        ensures { (result ≡ turn_of width (number_of self)) × (result ≤ 68) }
+    {
+        match self {
+            Way::Above => 0,
+            Way::Left => width - 1,
+            Way::Same => width,
+            Way::Right => width + 1,
+            Way::Below => 2 * width,
         }
-        k = wide32(links[r]);
     }
-    true
-}
 
-// The record k bars the place v.
-fn bars_place(records: &[u16], k: usize, v: usize) -> bool
-    requires { (k < 4096) × (k < count_in records.now) }
-    ensures { result ≡ stands_on records.now v k }
-{
-    if word(records, k, 0) != 0 {
-        return false;
+    // The place to which the way leads from u, in rows of this width.
+    pub fn from(self, width: usize, u: usize) -> usize
+        requires { (1 ≤ width) × (width ≤ 34) × (u < 2048) × (width ≤ u + turn_of width (number_of self)) }
+        ensures { result ≡ move_by width u (number_of self) }
+    {
+        u + self.turn(width) - width
     }
-    word(records, k, 2) == v
-}
 
-// The carrier may be on v at t, as far as its place constraints say.
-pub fn place_free(
-    records: &[u16],
-    i: Carrier,
-    heads: &[u16; 256],
-    links: &[u32],
-    t: usize,
-    v: usize,
-) -> bool
-    requires { (t < 256) × (count_in records.now ≤ 4096) × Chained records.now i.0 heads.now links.now }
-    ensures { result ≡ free_place i (constraints_of records.now) t v }
-{
-    let mut k = wide16(heads[t]);
-    while 0 < k {
-        let r = k - 1;
-        if bars_place(records, r, v) {
-            return false;
+    // The way back from there.
+    pub fn back(self) -> Way
+        ensures { number_of result ≡ way_back (number_of self) }
+    {
+        match self {
+            Way::Above => Way::Below,
+            Way::Left => Way::Right,
+            Way::Same => Way::Same,
+            Way::Right => Way::Left,
+            Way::Below => Way::Above,
         }
-        k = wide32(links[r]);
     }
-    true
+
+    // The way by which a step from the padded place a comes to b, in padded rows of this length.
+    fn between(row: usize, a: usize, b: usize) -> Option<Way>
+        requires { (row ≤ 34) × (a < 1156) × (b < 1156) }
+        ensures { number_if result ≡ way_of row a b }
+    {
+        if a + row == b {
+            Some(Way::Above)
+        } else if a + 1 == b {
+            Some(Way::Left)
+        } else if a == b {
+            Some(Way::Same)
+        } else if a == b + 1 {
+            Some(Way::Right)
+        } else if a == b + row {
+            Some(Way::Below)
+        } else {
+            None
+        }
+    }
+
+    // A place with this byte of the mask may be left by the way.
+    pub fn opens(self, byte: u8) -> bool
+        ensures { result ≡ opens_by byte (number_of self) }
+    {
+        (byte >> self as u8) % 2 == 1
+    }
 }
 
-// The later of two times.
-pub fn later(a: usize, b: usize) -> usize
-    ensures { (a ≤ result) × (b ≤ result) × ((c : ℕ) → a ≤ c → b ≤ c → result ≤ c) }
-{
-    if a < b { b } else { a }
+// The direction of a pass: forward in time, or backward with every move turned round.
+#[derive(Clone, Copy, Debug, PartialEq, Eq)]
+pub enum Direction {
+    Forward,
+    Backward,
 }
 
-// The time after which the record k lets the carrier i stay on g.
-fn stay_after(records: &[u16], i: Carrier, g: usize, k: usize) -> usize
-    requires { (k < 4096) × (k < count_in records.now) }
-    ensures { result ≡ stay_after i g (constraint_at records.now k) }
-{
-    if word(records, k, 1) != i.0 {
-        return 0;
+impl Size {
+    // Where the mask of the way from a to b stands.
+    fn slot(self, a: usize, b: usize) -> Option<usize>
+        requires { (a < 1156) × (b < 1156) }
+        ensures { SlotIn 5780 (slot_of (row_of self.width) a b) result }
+    {
+        let way = Way::between(self.row(), a, b)?;
+        Some(CELLS * way as usize + b)
     }
-    if word(records, k, 2) != g {
-        return 0;
+
+    // Where the mask of the way that the constraint bars in a pass of this direction stands.
+    fn move_slot(self, bar: Constraint, direction: Direction) -> Option<usize>
+        requires { OnPadded self.width bar }
+        ensures { SlotIn 5780 (move_slot self.width (is_back direction) bar) result }
+    {
+        match bar {
+            Constraint::Place { .. } => None,
+            Constraint::Move { u, v, .. } => match direction {
+                Direction::Forward => self.slot(self.pad(u), self.pad(v)),
+                Direction::Backward => self.slot(self.pad(v), self.pad(u)),
+            },
+        }
     }
-    if word(records, k, 0) == 0 {
-        return word(records, k, 4) + 1;
+
+    // The padded place that the constraint bars.
+    fn place_slot(self, bar: Constraint) -> Option<usize>
+        requires { OnPadded self.width bar }
+        ensures { SlotIn 1156 (place_slot self.width bar) result }
+    {
+        match bar {
+            Constraint::Place { u, .. } => Some(self.pad(u)),
+            Constraint::Move { .. } => None,
+        }
     }
-    if word(records, k, 3) != g {
-        return 0;
-    }
-    word(records, k, 4) + 1
 }
 
-// The least time from which the carrier i may stay on g, as far as its constraints say.
-pub fn stay_from(records: &[u16], i: Carrier, g: usize) -> usize
-    requires { count_in records.now ≤ 4096 }
-    ensures { result ≡ stay_from i g (constraints_of records.now) }
+// The constraint that a record of five words says.
+fn constraint_of(words: &[u16]) -> Constraint
+    requires { length words.now ≡ 5 }
+    ensures { (result ≡ constraint_at words.now 0) × OnTime result }
 {
-    let n = records.len() / 5;
-    let mut s = 0;
-    for k in 0..n {
-        s = later(s, stay_after(records, i, g, k));
+    let carrier = Carrier(usize::from(words[1]));
+    let u = usize::from(words[2]);
+    let t = usize::from(words[4]);
+    if words[0] == 0 {
+        Constraint::Place { carrier, u, t }
+    } else {
+        let v = usize::from(words[3]);
+        Constraint::Move { carrier, u, v, t }
     }
-    s
+}
+
+// The constraint bars the move from u to v at its time.
+fn bars_move(bar: Constraint, u: usize, v: usize) -> bool
+    ensures { result ≡ moves u v bar }
+{
+    match bar {
+        Constraint::Place { .. } => false,
+        Constraint::Move { u: from, v: to, .. } => u == from && v == to,
+    }
+}
+
+// The constraint bars the place v at its time.
+fn bars_place(bar: Constraint, v: usize) -> bool
+    ensures { result ≡ stands_on v bar }
+{
+    match bar {
+        Constraint::Place { u, .. } => v == u,
+        Constraint::Move { .. } => false,
+    }
+}
+
+// The time after which the constraint lets the carrier stay on g.
+fn stay_after(bar: Constraint, carrier: Carrier, g: usize) -> usize
+    requires { OnTime bar }
+    ensures { result ≡ stay_after carrier g bar }
+{
+    match bar {
+        Constraint::Place { carrier: of, u, t } if of.0 == carrier.0 && u == g => t + 1,
+        Constraint::Move {
+            carrier: of,
+            u,
+            v,
+            t,
+        } if of.0 == carrier.0 && u == g && v == g => t + 1,
+        _ => 0,
+    }
+}
+
+// The constraints of one carrier on a grid of this size.
+pub struct Chains<'a> {
+    pub size: Size,
+    pub records: &'a [u16],
+    pub carrier: Carrier,
+    heads: [u16; 256],
+    links: &'a [u32],
+    pub ghost few: { count_in records.now ≤ 4096 },
+    pub ghost on_grid: { OnLayer size.width records.now },
+    pub ghost chained: { Chained records.now carrier.0 heads links.now },
+}
+
+impl<'a> Chains<'a> {
+    ghost use Rattle.bars.specs.Rest.{rest_of};
+
+    // The chains of the carrier's constraints: the links stand in the lent words.
+    pub fn new(size: Size, records: &'a [u16], carrier: Carrier, links: &'a mut [u32]) -> Chains<'a>
+        requires timely { Timely records.now }
+        requires on_grid { OnLayer size.width records.now }
+        requires few { count_in records.now ≤ 4096 }
+        requires room { count_in records.now ≤ length links.old }
+        ensures { (result.size ≡ size) × (result.records.now ≡ records.now) × (result.carrier ≡ carrier) }
+    {
+        let mut heads = [0u16; 256];
+        for k in 0..records.len() / 5 {
+            let t = usize::from(records[5 * k + 4]);
+            links[k] = u32::from(heads[t]);
+            if usize::from(records[5 * k + 1]) == carrier.0 {
+                heads[t] = (k + 1) as u16;
+            }
+        }
+        Chains {
+            size,
+            records,
+            carrier,
+            heads,
+            links,
+        }
+    }
+
+    // The constraint of the record k.
+    fn constraint(&self, k: usize) -> Constraint
+        requires { k < count_in self.now.records.now }
+        ensures { (result ≡ constraint_at self.now.records.now k) × OnTime result }
+    {
+        constraint_of(&self.records[5 * k..5 * k + 5])
+    }
+
+    // The carrier's constraints at t, the last first.
+    fn at(&'a self, t: usize) -> AtTime<'a>
+        requires { t < 256 }
+        ensures { rest_of result ≡ ours_at self.now.records.now self.now.carrier.0 t }
+    {
+        AtTime {
+            chains: self,
+            t,
+            next: usize::from(self.heads[t]),
+        }
+    }
+
+    // No constraint of the carrier's is one of t.
+    pub fn is_free_at(&self, t: usize) -> bool
+        requires { t < 256 }
+        ensures { result ≡ true → (u v : ℕ) → free_move self.now.carrier (constraints_of self.now.records.now) t u v ≡ true }
+    {
+        self.heads[t] == 0
+    }
+
+    // The carrier may go from u to v at t, as far as its move constraints say.
+    pub fn move_free(&self, t: usize, u: usize, v: usize) -> bool
+        requires { t < 256 }
+        ensures { result ≡ free_move self.now.carrier (constraints_of self.now.records.now) t u v }
+    {
+        self.at(t).all(|bar| !bars_move(bar, u, v))
+    }
+
+    // The carrier may be on v at t, as far as its place constraints say.
+    pub fn place_free(&self, t: usize, v: usize) -> bool
+        requires { t < 256 }
+        ensures { result ≡ free_place self.now.carrier (constraints_of self.now.records.now) t v }
+    {
+        self.at(t).all(|bar| !bars_place(bar, v))
+    }
+
+    // Shuts the ways that the carrier's move constraints bar at t.
+    pub fn shut(&self, t: usize, direction: Direction, ways: &mut Ways)
+        requires { (t < 256) × (length ways.old ≡ 5780) }
+        ensures { Cleared (move_slot self.now.size.width (is_back direction)) (ours_at self.now.records.now self.now.carrier.0 t) ways.old ways.new }
+    {
+        for bar in self.at(t) {
+            if let Some(x) = self.size.move_slot(bar, direction) {
+                ways[x] = 0;
+            }
+        }
+    }
+
+    // Takes the labels off the places that the carrier's place constraints bar at t.
+    pub fn clear(&self, t: usize, layer: &mut Layer)
+        requires { (t < 256) × (length layer.old ≡ 1156) }
+        ensures { Cleared (place_slot self.now.size.width) (ours_at self.now.records.now self.now.carrier.0 t) layer.old layer.new }
+    {
+        for bar in self.at(t) {
+            if let Some(x) = self.size.place_slot(bar) {
+                layer[x] = 0;
+            }
+        }
+    }
+
+    // The least time from which the carrier may stay on g, as far as its constraints say.
+    pub fn stay_from(&self, g: usize) -> usize
+        ensures { result ≡ stay_from self.now.carrier g (constraints_of self.now.records.now) }
+    {
+        let mut from = 0;
+        for k in 0..self.records.len() / 5 {
+            from = from.max(stay_after(self.constraint(k), self.carrier, g));
+        }
+        from
+    }
+}
+
+// The carrier's constraints at a time that are still to come.
+#[derive(Drop)]
+struct AtTime<'a> {
+    chains: &'a Chains<'a>,
+    t: usize,
+    next: usize,
+    ghost within: { next ≤ count_in chains.now.records.now },
+    ghost own: { (k : ℕ) → next ≡ suc k → (record_word chains.now.records.now k 1 ≡ chains.now.carrier.0) × (record_word chains.now.records.now k 4 ≡ t) },
+}
+
+impl<'a> Iterator for AtTime<'a> {
+    ghost use Rattle.std.specs.Iterator.{YieldsFirst, item_count};
+    ghost use Rattle.bars.specs.Rest.{rest_of};
+
+    type Item = Constraint;
+
+    ghost next_gives = { YieldsFirst rest_of };
+
+    ghost remaining = { item_count rest_of };
+
+    fn next(&mut self) -> Option<Constraint> {
+        let k = self.next.checked_sub(1)?;
+        self.next = self.chains.links[k] as usize;
+        Some(self.chains.constraint(k))
+    }
 }
