@@ -2,7 +2,7 @@
 use Rattle.std.proofs.Common.{ℕ, zero, suc, ◌+◌, ◌≤◌, ◌<◌, ◌≡◌, refl, sym, ap, ◌∙◌, subst, Bool, true, false, cond, not, List, [], ◌∷◌, length, get_or, Option, Some, None, T, eqb, arith}
 use Rattle.std.specs.List.{list_all}
 use mathlib.Core.List.{Memᴰ as Mem}
-use mathlib.Core.Logic.{◌⊎◌, inl, inr}
+use mathlib.Core.Logic.{◌⊎◌, inl, inr, ⊎_elim}
 use mathlib.Core.List.Memᴰ.{head as here}
 use mathlib.Core.List.Memᴰ.{tail as there}
 use native.Mathlib.Decide.{ℕ_discrete}
@@ -191,13 +191,20 @@ module _ (rs : List ℕ) (i t w : ℕ) (z : 0 < w) (before after : List ℕ) whe
       has (Move j x y s) h = let f = (says_and (says_eqb {a = u} {b = x}) (says_eqb {a = v} {b = y})).fact h in rw (← f.0, ← f.1) refl
 
   -- after the carrier's places at t are cleared, a label is what it was where the place is free, and else 0
-  pub place_cleared : (v : ℕ) → pad_of w v < 1156 → Cleared (place_slot w) (ours_at rs i t) before after
+  pub place_cleared : (v : ℕ) → length before ≡ 1156 → Cleared (place_slot w) (ours_at rs i t) before after
       → get_or after (pad_of w v) 0 ≡ cond (free_place (carrier i) (constraints_of rs) t v) (get_or before (pad_of w v) 0) 0
-  place_cleared v l = by_slots (place_slot w) (stands_on v) _ (place_ours rs i t v) _ (λ c m. hits c) (λ c m. has c)
+  place_cleared v size c = ⊎_elim
+      (λ l. by_slots (place_slot w) (stands_on v) _ (place_ours rs i t v) _ (λ b m. hits l b) (λ b m. has b) c)
+      (λ l. past (free_place (carrier i) (constraints_of rs) t v) (get_or-eq_default after 0 (omega (arith, c.size))) (get_or-eq_default before 0 (omega arith)))
+      (lt_or_ge (pad_of w v) 1156)
     where
-      hits : (c : Constraint) → place_slot w c ≡ pad_of w v → T (stands_on v c)
-      hits (Place j x s) q = (says_eqb).test (sym (pad_inj w x v z q))
-      hits (Move j x y s) q = absurd (omega arith)
+      past : (b : Bool) {x y : ℕ} → x ≡ 0 → y ≡ 0 → x ≡ cond b y 0
+      past true e f = e ∙ sym f
+      past false e f = e
+
+      hits : pad_of w v < 1156 → (c : Constraint) → place_slot w c ≡ pad_of w v → T (stands_on v c)
+      hits l (Place j x s) q = (says_eqb).test (sym (pad_inj w x v z q))
+      hits l (Move j x y s) q = absurd (omega arith)
 
       has : (c : Constraint) → T (stands_on v c) → place_slot w c ≡ pad_of w v
       has (Place j x s) h = ap (pad_of w) (sym (says_eqb.fact h))

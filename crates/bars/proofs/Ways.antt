@@ -1,9 +1,9 @@
 -- The way of a step between two padded places. Assumes nothing.
-use Prim.Native.Nat.{ℕ, ◌+◌}
-use mathlib.Core.Path.{◌≡◌, refl}
-use mathlib.Core.Logic.{◌≢◌}
+use Rattle.std.proofs.Common.{ℕ, zero, suc, ◌+◌, ◌<◌, ◌≡◌, ◌≢◌, refl, get_or, arith}
 use borrow.Author.Tests.{eq-eqb, ne_eqb}
+use Rattle.bars.specs.Ways.{number_of, all_ways}
 use Rattle.bars.specs.Bars.{way_of}
+use Rattle.bars.specs.declared.Way.TheVariants.{Above}
 
 module _ (wide a b : ℕ) where
   pub way_above : a + wide ≡ b → 0 ≡ way_of wide a b
@@ -27,3 +27,12 @@ module _ (wide a b : ℕ) where
 
           pub way_none : a ≢ b + wide → 5 ≡ way_of wide a b
           way_none h = rw (ne_eqb (a + wide) b n0, ne_eqb (a + 1) b n1, ne_eqb a b n2, ne_eqb a (b + 1) n3, ne_eqb a (b + wide) h) refl
+
+-- the way with a number
+pub way_at : (k : ℕ) → k < 5 → number_of (get_or all_ways k Above) ≡ k
+way_at zero l = refl
+way_at (suc zero) l = refl
+way_at (suc (suc zero)) l = refl
+way_at (suc (suc (suc zero))) l = refl
+way_at (suc (suc (suc (suc zero)))) l = refl
+way_at (suc (suc (suc (suc (suc k))))) l = absurd (omega arith)

@@ -7,16 +7,12 @@ use Rattle.deck.specs.Sheet.{Sheet, area, grid_byte}
 abbrev pub pad_of : ℕ → ℕ → ℕ
 pad_of w v = v + 2 * (v / w) + w + 3
 
--- the length of a padded row, the place from which on there are only places past the grid, and how many words of four bytes the rows of a
--- grid take
+-- the length of a padded row, and the place from which on there are only places past the grid
 abbrev pub row_of : ℕ → ℕ
 row_of w = w + 2
 
 abbrev pub end_of : ℕ → ℕ → ℕ
 end_of w h = (w + 2) * (h + 1)
-
-abbrev pub words_of : ℕ → ℕ → ℕ
-words_of w h = ((w + 2) * h + 3) / 4
 
 -- the places of the padded grid: 34 rows of 34
 abbrev pub cells : ℕ

@@ -1,5 +1,5 @@
 -- The five ways of a step: above, left, to the place itself, right, below. Assumes nothing.
-use Rattle.std.specs.Prelude.{ℕ, zero, suc, ◌+◌, ◌-◌, ◌*◌, ◌/◌, ◌%◌, ◌^◌, Bool, true, false, cond, Option, None, Some, ◌||◌, eqb}
+use Rattle.std.specs.Prelude.{ℕ, zero, suc, ◌+◌, ◌-◌, ◌*◌, ◌/◌, ◌%◌, ◌^◌, Bool, true, false, cond, Option, None, Some, List, [], ◌∷◌, ◌||◌, eqb}
 use Rattle.deck.specs.Sheet.{Sheet, grid_byte}
 use Rattle.kernel.specs.Near.{has_above, has_left, has_right, has_below}
 use Rattle.bars.specs.declared.Direction.{Direction}
@@ -15,7 +15,11 @@ number_of Same = 2
 number_of Right = 3
 number_of Below = 4
 
--- and 5 for none
+-- the ways in the order of their numbers
+abbrev pub all_ways : List Way
+all_ways = Above ∷ Left ∷ Same ∷ Right ∷ Below ∷ []
+
+-- a way's number, and 5 for none
 abbrev pub number_if : Option Way → ℕ
 number_if None = 5
 number_if (Some x) = number_of x

@@ -6,7 +6,7 @@
 ghost use Rattle.std.specs.Prelude.{◌≡◌, ℕ, Bool, true, cond, suc, ◌+◌, ◌*◌, ◌/◌, ◌<◌, ◌≤◌, length, eqb};
 ghost use Rattle.deck.specs.Calls.{record_word, constraint_of, constraint_at, constraints_of};
 ghost use Rattle.kernel.specs.Parts.{free_move, free_place, stay_after, stay_from};
-ghost use Rattle.bars.specs.Padded.{pad_of, row_of, end_of, words_of};
+ghost use Rattle.bars.specs.Padded.{pad_of, row_of, end_of};
 ghost use Rattle.bars.specs.Ways.{number_of, number_if, is_back, opens_by, turn_of, move_by, way_back};
 ghost use Rattle.bars.specs.Bars.{count_in, Timely, OnLayer, OnPadded, OnTime, Chained, moves, stands_on, ours, ours_at, way_of, slot_of, move_slot, place_slot, SlotIn, Cleared};
 
@@ -55,7 +55,7 @@ impl Size {
 
     // How many words of four bytes the rows of the grid take.
     pub fn words(self) -> usize
-        ensures { result ≡ words_of self.width self.height }
+        ensures { result ≡ ((self.width + 2) * self.height + 3) / 4 }
     {
         ((self.width + 2) * self.height + 3) / 4
     }

@@ -1,5 +1,5 @@
 -- From what the parts of a step ensure to what the step does. Assumes nothing.
-use Prim.Native.Nat.{ℕ, zero, suc, ◌+◌, ◌-◌, ◌*◌, ◌≤◌, ◌<◌}
+use Prim.Native.Nat.{ℕ, ◌+◌, ◌-◌, ◌*◌, ◌≤◌, ◌<◌}
 use mathlib.Core.Path.{◌≡◌, refl, sym, ap, ◌∙◌, subst}
 use mathlib.Core.Logic.{⊎_elim, ◌≢◌}
 use mathlib.Core.Bool.{Bool, true, false, cond}
@@ -12,71 +12,38 @@ use lib.Dec.{T, eqb}
 use borrow.Author.Tests.{eq-eqb, ne_eqb}
 use native.Mathlib.Decide.{ℕ_discrete}
 use Rattle.deck.specs.Sheet.{Sheet, area, carrier}
-use Rattle.deck.specs.Calls.{record_word, constraints_of}
+use Rattle.deck.specs.Calls.{constraints_of}
 use Rattle.kernel.specs.Layers.{lift}
 use Rattle.kernel.specs.Goals.{up}
-use Rattle.kernel.specs.Parts.{stands}
+use Rattle.kernel.specs.Parts.{stands, free_move}
 use Rattle.kernel.proofs.Choice.{lt_or_ge}
 use Rattle.kernel.proofs.OfSheet.{stands_is}
 use Rattle.bars.specs.Padded.{pad_of}
-use Rattle.bars.specs.Ways.{place_by, has_by}
-use Rattle.bars.specs.Bars.{way_of, move_slot, place_slot, OnLayer, Chained, Cleared}
+use Rattle.bars.specs.declared.Way.{Way}
+use Rattle.bars.specs.Ways.{number_of, place_by, has_by}
+use Rattle.bars.specs.Bars.{way_of, move_slot, place_slot, OnLayer, ours_at, Cleared}
 use Rattle.bars.proofs.Grid.{pad_inj, pad_most, size_of, size_small}
 use Rattle.bars.proofs.Leads.{leads, way_by}
-use Rattle.bars.proofs.Walks.{none_after}
-use Rattle.bars.proofs.Records.{move_none}
 use Rattle.bars.proofs.Slots.{way_shut, place_cleared}
 use Rattle.layers.specs.Fill.{Filled}
 use Rattle.layers.specs.Spread.{spread_at, spread_by}
 use Rattle.layers.specs.Raise.{Raised, GoalsAt}
 use Rattle.layers.specs.Step.{around, Ground, Margin, door_at, DoorsTo, Doors, way_at, Copies, Advanced, Stepped, Seeded}
+use Rattle.layers.proofs.Copying.{CopiedTo}
 use Rattle.layers.proofs.Fills.{up_to, filled_as}
 use Rattle.layers.proofs.Raising.{raise_none, raised_up}
 use Rattle.layers.proofs.Stepping.{move_free, spread_of, spread_one, spread_each, ways_holds, free_holds}
 
--- the five copies of the mask
-pub copies_all : (mask : List ℕ) {w0 w1 w2 w3 w4 w5 : List ℕ} → length w0 ≡ 6936 → (n : ℕ) → n ≡ 1156
-    → Filled 0 (0 + n) (λ x. get_or mask (x - 0) 0) w0 w1 → Filled 1156 (1156 + n) (λ x. get_or mask (x - 1156) 0) w1 w2
-    → Filled 2312 (2312 + n) (λ x. get_or mask (x - 2312) 0) w2 w3 → Filled 3468 (3468 + n) (λ x. get_or mask (x - 3468) 0) w3 w4
-    → Filled 4624 (4624 + n) (λ x. get_or mask (x - 4624) 0) w4 w5 → Copies mask [] w5
-copies_all mask {w0} {w1} {w2} {w3} {w4} {w5} e n en f0 f1 f2 f3 f4 = record { size = f4.size ∙ f3.size ∙ f2.size ∙ f1.size ∙ f0.size ∙ e; copied = at }
-  where
-    at : (k : ℕ) → k < 5 → (p : ℕ) → p < 1156 → get_or w5 (1156 * k + p) 0 ≡ get_or mask p 0
-    at zero l p h =
-        let q : 1156 * 0 + p ≡ p = omega arith in
-        let r : p - 0 ≡ p = omega arith in
-        rw q (f4.below p (omega arith) ∙ f3.below p (omega arith) ∙ f2.below p (omega arith) ∙ f1.below p (omega arith) ∙ f0.inside p (omega arith) (omega arith) ∙ ap (λ (z : ℕ). get_or mask z 0) r)
-    at (suc zero) l p h =
-        let q : 1156 * 1 + p - 1156 ≡ p = omega arith in
-        f4.below _ (omega arith) ∙ f3.below _ (omega arith) ∙ f2.below _ (omega arith) ∙ f1.inside _ (omega arith) (omega arith) ∙ ap (λ (z : ℕ). get_or mask z 0) q
-    at (suc (suc zero)) l p h =
-        let q : 1156 * 2 + p - 2312 ≡ p = omega arith in
-        f4.below _ (omega arith) ∙ f3.below _ (omega arith) ∙ f2.inside _ (omega arith) (omega arith) ∙ ap (λ (z : ℕ). get_or mask z 0) q
-    at (suc (suc (suc zero))) l p h =
-        let q : 1156 * 3 + p - 3468 ≡ p = omega arith in
-        f4.below _ (omega arith) ∙ f3.inside _ (omega arith) (omega arith) ∙ ap (λ (z : ℕ). get_or mask z 0) q
-    at (suc (suc (suc (suc zero)))) l p h =
-        let q : 1156 * 4 + p - 4624 ≡ p = omega arith in
-        f4.inside _ (omega arith) (omega arith) ∙ ap (λ (z : ℕ). get_or mask z 0) q
-    at (suc (suc (suc (suc (suc k))))) l p h = absurd (omega arith)
+-- the copies of the mask are the ways where there are no doors, and else the doors
+pub copies_plain : (mask : List ℕ) {ways : List ℕ} → CopiedTo 5 mask ways → Copies mask [] ways
+copies_plain mask c = record { size = c.size; copied = c.copied }
 
--- they are the ways where there are no doors
-pub copies_plain : (mask doors : List ℕ) {ways : List ℕ} → length doors ≡ 0 → Copies mask [] ways → Copies mask doors ways
-copies_plain mask doors e c = record { size = c.size; copied = λ k l p h. rw (eq-eqb (length doors) 0 e) (c.copied k l p h) }
-
--- and else a copy of the doors
-pub copies_doors : (mask doors : List ℕ) {w0 w1 : List ℕ} → length w0 ≡ 6936 → length doors ≢ 0 → length doors ≡ 6936
-    → Filled 0 (0 + length doors) (λ x. get_or doors (x - 0) 0) w0 w1 → Copies mask doors w1
-copies_doors mask doors e n six f = record {
-  size = f.size ∙ e;
-  copied = λ k l p h.
-      let r : 1156 * k + p - 0 ≡ 1156 * k + p = omega arith in
-      rw (ne_eqb (length doors) 0 n) (f.inside (1156 * k + p) (omega arith) (omega arith) ∙ ap (λ (z : ℕ). get_or doors z 0) r);
-}
+pub copies_doors : (mask doors : List ℕ) → length doors ≡ 5780 → Copies mask doors doors
+copies_doors mask doors e = record { size = e; copied = λ k l p h. rw (ne_eqb (length doors) 0 (λ z. omega arith)) refl }
 
 -- the doors of the ways, one way more a turn
 module _ (mask : List ℕ) (wide end : ℕ) (back : Bool) (small : end ≤ 1122) where
-  pub doors_none : {doors : List ℕ} → length doors ≡ 6936 → DoorsTo 0 mask wide end back doors
+  pub doors_none : {doors : List ℕ} → length doors ≡ 5780 → DoorsTo 0 mask wide end back doors
   doors_none e = record { size = e; at = λ x l. absurd (not-suc-le-zero l) }
 
   pub doors_more : (x : ℕ) {before after : List ℕ} → DoorsTo x mask wide end back before
@@ -93,6 +60,13 @@ module _ (mask : List ℕ) (wide end : ℕ) (back : Bool) (small : end ≤ 1122)
           let e : 1156 * x + p - 1156 * x ≡ p = omega arith in
           f.inside (1156 * x + p) (omega arith) (omega arith) ∙ ap (door_at mask wide back x) e
 
+  -- those of the way with that number
+  pub doors_by : (x : ℕ) (way : Way) {before after : List ℕ} → number_of way ≡ x → DoorsTo x mask wide end back before
+      → Filled (1156 * number_of way + wide) (1156 * number_of way + end) (λ q. door_at mask wide back (number_of way) (q - 1156 * number_of way)) before after
+      → DoorsTo (x + 1) mask wide end back after
+  doors_by x way {before} {after} e g f =
+      doors_more x g (subst (λ (n : ℕ). Filled (1156 * n + wide) (1156 * n + end) (λ q. door_at mask wide back n (q - 1156 * n)) before after) e f)
+
   pub doors_all : {x n : ℕ} {doors : List ℕ} → x ≡ n → DoorsTo x mask wide end back doors → DoorsTo n mask wide end back doors
   doors_all {doors} e g = subst (λ (k : ℕ). DoorsTo k mask wide end back doors) e g
 
@@ -100,20 +74,20 @@ module _ (mask : List ℕ) (wide end : ℕ) (back : Bool) (small : end ≤ 1122)
 at_sheet : (P : ℕ → ℕ → Type 0) {d : Sheet} {w h : ℕ} {mask : List ℕ} → Ground d w h mask → P w h → P d.width d.height
 at_sheet P {d} {w} {h} g x = subst (λ (z : ℕ). P z d.height) (sym g.width) (subst (λ (z : ℕ). P w z) (sym g.height) x)
 
-module _ (w h : ℕ) (mask doors rs : List ℕ) (i : ℕ) (heads links : List ℕ) (t : ℕ) (back : Bool) (src before after : List ℕ)
+module _ (w h : ℕ) (mask doors rs : List ℕ) (i t : ℕ) (back : Bool) (src before after : List ℕ)
     (w1 : 1 ≤ w) (w32 : w ≤ 32) (h32 : h ≤ 32) (given : Doors mask w h back doors) (size : length before ≡ 1156) where
   abbrev Rows : (ℕ → ℕ → ℕ) → ℕ → ℕ → Type 0
   Rows ways y z = Filled (y + 2) ((y + 2) * (z + 1)) (spread_of src ways (y + 2)) before after
 
   -- no constraint of the carrier at t
-  module _ (l : t < 256) (c : Chained rs i heads links) (e : get_or heads t 0 ≡ 0) where
+  module _ (all_free : (u v : ℕ) → free_move (carrier i) (constraints_of rs) t u v ≡ true) where
     free_advanced : (ways : ℕ → ℕ → ℕ) → ((x p : ℕ) → ways x p ≡ way_at mask doors x p) → Rows ways w h → Advanced w h mask (carrier i) (constraints_of rs) t back src before after
     free_advanced ways same fill = record {
       size = fill.size ∙ size;
       holds = λ d f g labels holds m.
           free_holds d (carrier i) (constraints_of rs) t back src mask before after f g.masked labels holds (at_sheet (λ y z. Margin y z before) g m)
           doors (at_sheet (λ y z. Doors mask y z back doors) g given)
-          (λ u v. move_none rs i t u v (λ k b o _. none_after rs i t heads links l c (sym e) k (omega arith) b o))
+          all_free
           ways same (at_sheet (Rows ways) g fill);
     }
 
@@ -128,7 +102,7 @@ module _ (w h : ℕ) (mask doors rs : List ℕ) (i : ℕ) (heads links : List �
     doors_advanced n fill = free_advanced (λ k q. get_or doors (1156 * k + q) 0) (λ x p. rw (ne_eqb (length doors) 0 n) refl) (filled_as (spread_each src doors (w + 2)) fill)
 
   -- over the ways that the carrier's constraints leave
-  pub ways_advanced : (copies ways : List ℕ) → OnLayer w rs → Copies mask doors copies → Cleared rs i t (move_slot rs w back) 0 copies ways
+  pub ways_advanced : (copies ways : List ℕ) → OnLayer w rs → Copies mask doors copies → Cleared (move_slot w back) (ours_at rs i t) copies ways
       → Filled (w + 2) ((w + 2) * (h + 1)) (spread_by src ways (w + 2)) before after → Advanced w h mask (carrier i) (constraints_of rs) t back src before after
   ways_advanced copies ways on cop c fill = record {
     size = fill.size ∙ size;
@@ -155,32 +129,32 @@ module _ (w h : ℕ) (mask doors rs : List ℕ) (i : ℕ) (heads links : List �
           subst
           (λ (z : ℕ). get_or ways (1156 * z + pad_of d.width v) 0 ≡ cond (move_free d (carrier i) (constraints_of rs) t back u v) (way_at mask doors z (pad_of d.width v)) 0) (sym e)
           (way_shut rs i t d.width (omega (arith, g.width)) copies ways back u v pu pv within
-          (λ r q. subst (λ (z : ℕ). (pad_of z (record_word rs r 2) < 1156) × (pad_of z (record_word rs r 3) < 1156)) (sym g.width) ((on r q).2, (on r q).3))
-          (subst (λ (z : ℕ). Cleared rs i t (move_slot rs z back) 0 copies ways) (sym g.width) c)
+          (subst (λ (z : ℕ). OnLayer z rs) (sym g.width) on)
+          (subst (λ (z : ℕ). Cleared (move_slot z back) (ours_at rs i t) copies ways) (sym g.width) c)
           ∙ ap (λ (z : ℕ). cond (move_free d (carrier i) (constraints_of rs) t back u v) z 0) (cop.copied y within (pad_of d.width v) pv))
 
 -- clearing the barred places keeps the labels where the carrier may stand
-stand_cleared : (d : Sheet) (rs : List ℕ) (i on : ℕ) → 0 < d.width → {one two : List ℕ} (v : ℕ) → Cleared rs i on (place_slot rs d.width) 0 one two
+stand_cleared : (d : Sheet) (rs : List ℕ) (i on : ℕ) → 0 < d.width → {one two : List ℕ} (v : ℕ) → length one ≡ 1156 → Cleared (place_slot d.width) (ours_at rs i on) one two
     → get_or two (pad_of d.width v) 0 ≡ cond (stands d (carrier i) (constraints_of rs) on v) (get_or one (pad_of d.width v) 0) 0
-stand_cleared d rs i on z {one} {two} v c = rw (stands_is d (carrier i) (constraints_of rs) on v) (place_cleared rs i on d.width z one two v c)
+stand_cleared d rs i on z {one} {two} v l c = rw (stands_is d (carrier i) (constraints_of rs) on v) (place_cleared rs i on d.width z one two v l c)
 
 -- the labels advanced, those on barred places taken away, the others raised
 pub all_stepped : (w h : ℕ) (mask rs : List ℕ) (i t on : ℕ) (back : Bool) (goals : List ℕ) (n : ℕ) (src before : List ℕ) {one two after : List ℕ} → 1 ≤ w
-    → Advanced w h mask (carrier i) (constraints_of rs) t back src before one → Cleared rs i on (place_slot rs w) 0 one two → Raised goals n two after
+    → Advanced w h mask (carrier i) (constraints_of rs) t back src before one → Cleared (place_slot w) (ours_at rs i on) one two → Raised goals n two after
     → Stepped w h mask (carrier i) (constraints_of rs) t on back goals n src before after
 all_stepped w h mask rs i t on back goals n src before {one} {two} {after} w1 a c r = record {
   size = r.size ∙ c.size ∙ a.size;
   holds = λ d gs f g goals_at labels holds m.
       let x = a.holds d f g labels holds m in
       let z : 0 < d.width = omega (arith, g.width) in
-      let cl : Cleared rs i on (place_slot rs d.width) 0 one two = subst (λ (y : ℕ). Cleared rs i on (place_slot rs y) 0 one two) (sym g.width) c in
+      let cl : Cleared (place_slot d.width) (ours_at rs i on) one two = subst (λ (y : ℕ). Cleared (place_slot y) (ours_at rs i on) one two) (sym g.width) c in
       let ga : GoalsAt d.width gs goals n = subst (λ (y : ℕ). GoalsAt y gs goals n) (sym g.width) goals_at in
       record {
         size = r.size ∙ c.size ∙ a.size;
         inside = λ v b.
             r.at (pad_of d.width v)
             ∙ raised_up d.width z gs goals n ga v (get_or two (pad_of d.width v) 0)
-            ∙ ap (lift (up v gs)) (stand_cleared d rs i on z v cl ∙ ap (λ (y : ℕ). cond (stands d (carrier i) (constraints_of rs) on v) y 0) (x.inside v b))
+            ∙ ap (lift (up v gs)) (stand_cleared d rs i on z v a.size cl ∙ ap (λ (y : ℕ). cond (stands d (carrier i) (constraints_of rs) on v) y 0) (x.inside v b))
             ∙ lift_cond (stands d (carrier i) (constraints_of rs) on v) (up v gs) (around d (carrier i) (constraints_of rs) t back f v);
         border = λ p b.
             let e : get_or two p 0 ≡ 0 = omega (arith, c.less p, x.border p b) in
@@ -194,13 +168,13 @@ all_stepped w h mask rs i t on back goals n src before {one} {two} {after} w1 a 
 
 -- one place alone, taken away where it is barred, and raised
 pub all_seeded : (w : ℕ) (rs : List ℕ) (i on : ℕ) (goals : List ℕ) (n p : ℕ) {one two after : List ℕ} → 1 ≤ w → p < 1156
-    → one ≡ set (replicate 1156 0) p 1 → Cleared rs i on (place_slot rs w) 0 one two → Raised goals n two after
+    → one ≡ set (replicate 1156 0) p 1 → Cleared (place_slot w) (ours_at rs i on) one two → Raised goals n two after
     → Seeded w (carrier i) (constraints_of rs) on goals n p after
 all_seeded w rs i on goals n p {one} {two} {after} w1 small made c r = record {
   size = size;
   holds = λ d gs v0 e goals_at in-grid place.
       let z : 0 < d.width = omega (arith, e) in
-      let cl : Cleared rs i on (place_slot rs d.width) 0 one two = subst (λ (y : ℕ). Cleared rs i on (place_slot rs y) 0 one two) (sym e) c in
+      let cl : Cleared (place_slot d.width) (ours_at rs i on) one two = subst (λ (y : ℕ). Cleared (place_slot y) (ours_at rs i on) one two) (sym e) c in
       let ga : GoalsAt d.width gs goals n = subst (λ (y : ℕ). GoalsAt y gs goals n) (sym e) goals_at in
       let pl : p ≡ pad_of d.width v0 = subst (λ (y : ℕ). p ≡ pad_of y v0) (sym e) place in
       record {
@@ -208,7 +182,7 @@ all_seeded w rs i on goals n p {one} {two} {after} w1 small made c r = record {
         inside = λ v b.
             r.at (pad_of d.width v)
             ∙ raised_up d.width z gs goals n ga v (get_or two (pad_of d.width v) 0)
-            ∙ ap (lift (up v gs)) (stand_cleared d rs i on z v cl ∙ ap (λ (y : ℕ). cond (stands d (carrier i) (constraints_of rs) on v) y 0) (first d v v0 z pl (ℕ_discrete v v0)))
+            ∙ ap (lift (up v gs)) (stand_cleared d rs i on z v size_one cl ∙ ap (λ (y : ℕ). cond (stands d (carrier i) (constraints_of rs) on v) y 0) (first d v v0 z pl (ℕ_discrete v v0)))
             ∙ lift_if (stands d (carrier i) (constraints_of rs) on v) (up v gs) (cond (eqb v v0) 1 0);
         border = λ q b.
             let f : get_or two q 0 ≡ 0 = omega (arith, c.less q, other q (λ x. b v0 in-grid (sym pl ∙ sym x))) in
@@ -216,8 +190,11 @@ all_seeded w rs i on goals n p {one} {two} {after} w1 small made c r = record {
       };
 }
   where
+    size_one : length one ≡ 1156
+    size_one = ap length made ∙ length-set (replicate 1156 0) p 1 ∙ length-replicate {A = ℕ} 1156 0
+
     size : length after ≡ 1156
-    size = r.size ∙ c.size ∙ ap length made ∙ length-set (replicate 1156 0) p 1 ∙ length-replicate {A = ℕ} 1156 0
+    size = r.size ∙ c.size ∙ size_one
 
     lift_if : (b : Bool) (g : ℕ → ℕ) (y : ℕ) → lift g (cond b y 0) ≡ cond b (lift g y) 0
     lift_if true g y = refl

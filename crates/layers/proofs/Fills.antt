@@ -1,5 +1,5 @@
 -- Lists that a loop fills, raises or keeps from the front, one store a turn. Assumes nothing.
-use Prim.Native.Nat.{ℕ, zero, suc, ◌+◌, ◌*◌, ◌≤◌, ◌<◌}
+use Prim.Native.Nat.{ℕ, ◌+◌, ◌*◌, ◌≤◌, ◌<◌}
 use mathlib.Core.Path.{◌≡◌, refl, ap, ◌∙◌, subst}
 use mathlib.Core.Logic.{◌⊎◌, inl, inr, ⊎_elim}
 use mathlib.Core.Bool.{Bool, true, false, cond}
@@ -74,12 +74,3 @@ module _ (x : List ℕ) (from at : ℕ) (before : List ℕ) where
 
   pub kept_all : {k n : ℕ} {after : List ℕ} → k ≡ n → Kept x from at k before after → Kept x from at n before after
   kept_all {after} e g = subst (λ (n : ℕ). Kept x from at n before after) e g
-
--- the four bytes of a word
-pub four_bytes : (x : List ℕ) (p : ℕ) {a b c e : ℕ} → (a ≡ get_or x p 0) × (a < 256) → (b ≡ get_or x (p + 1) 0) × (b < 256)
-    → (c ≡ get_or x (p + 2) 0) × (c < 256) → (e ≡ get_or x (p + 3) 0) × (e < 256) → FourAt x p (a + 256 * b + 65536 * c + 16777216 * e)
-four_bytes x p {a} {b} {c} {e} f0 f1 f2 f3 zero l = let q : p + 0 ≡ p = omega arith in rw q (omega (arith, f0.0, f0.1))
-four_bytes x p {a} {b} {c} {e} f0 f1 f2 f3 (suc zero) l = omega (arith, f0.1, f1.0, f1.1)
-four_bytes x p {a} {b} {c} {e} f0 f1 f2 f3 (suc (suc zero)) l = omega (arith, f0.1, f1.1, f2.0, f2.1)
-four_bytes x p {a} {b} {c} {e} f0 f1 f2 f3 (suc (suc (suc zero))) l = omega (arith, f0.1, f1.1, f2.1, f3.0, f3.1)
-four_bytes x p {a} {b} {c} {e} f0 f1 f2 f3 (suc (suc (suc (suc k)))) l = absurd (omega arith)

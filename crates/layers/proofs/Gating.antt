@@ -1,37 +1,24 @@
 -- Bytes of the mask in the code's tests, of a lane and of a way's bit, and the doors made of them. Assumes nothing.
-use Prim.Native.Nat.{ℕ, ◌+◌, ◌-◌, ◌*◌, ◌/◌, ◌%◌, ◌^◌, ◌≤◌, max, min}
+use Prim.Native.Nat.{ℕ, ◌+◌, ◌-◌, ◌*◌, ◌≤◌, max, min}
 use mathlib.Core.Path.{◌≡◌, refl, sym, subst}
-use mathlib.Core.Logic.{◌⊎◌, inl, inr, ⊎_elim, ◌≢◌}
+use mathlib.Core.Logic.{⊎_elim, ◌≢◌}
+use Rattle.std.specs.Prelude.{Option, None, Some}
+use Rattle.std.specs.Borrow.{Bor}
 use mathlib.Core.Bool.{Bool, true, false, cond}
 use mathlib.Core.List.{List}
-use native.Mathlib.Nat.{eq-or-lt_of_le}
 use native.Mathlib.Omega.{arith}
-use lib.ListN.{length, get_or}
-use borrow.Author.Tests.{eq-eqb, ne_eqb}
+use lib.ListN.{get_or}
 use Rattle.bars.specs.Ways.{turn_of, opens_by}
-use Rattle.bars.proofs.Grid.{size_of, size_small}
 use Rattle.layers.specs.Fill.{Filled}
-use Rattle.layers.specs.Step.{Plain, door_at, DoorsTo, Doors}
+use Rattle.layers.specs.Step.{Plain, door_at, Doors, Passable, bytes_of}
 use Rattle.layers.proofs.Fills.{up_to}
 
--- a byte that is neither far from 0 nor from 255
-pub odd_none : (m : ℕ) {r : ℕ} → m ≤ 255 → r ≡ min m (255 - m) → r ≡ 0 → (m ≡ 0) ⊎ (m ≡ 255)
-odd_none m l e z = ⊎_elim (λ q. inr (omega arith)) (λ q. inl (omega arith)) (eq-or-lt_of_le l)
-
 -- one place more is no lane
-pub plain_more : (mask : List ℕ) (wide p : ℕ) {a b r : ℕ} → r ≡ max a b → (a ≡ 0 → Plain mask wide p) → (b ≡ 0 → (get_or mask p 0 ≡ 0) ⊎ (get_or mask p 0 ≡ 255))
-    → r ≡ 0 → Plain mask wide (p + 1)
-plain_more mask wide p {a} {b} {r} e f g z q lo hi =
-    ⊎_elim (λ k. subst (λ (i : ℕ). (get_or mask i 0 ≡ 0) ⊎ (get_or mask i 0 ≡ 255)) (sym k) (g (omega arith))) (λ k. f (omega arith) q lo k) (up_to q p hi)
-
--- the bit of a way
-pub through_open : (byte m x : ℕ) → m / 2 ^ x % 2 ≡ 1 → byte ≡ cond (opens_by m x) byte 0
-unfolding opens_by
-through_open byte m x e = rw (eq-eqb (m / 2 ^ x % 2) 1 e) refl
-
-pub through_shut : (byte m x : ℕ) → m / 2 ^ x % 2 ≢ 1 → 0 ≡ cond (opens_by m x) byte 0
-unfolding opens_by
-through_shut byte m x e = rw (ne_eqb (m / 2 ^ x % 2) 1 e) refl
+pub plain_more : (mask : List ℕ) (wide p : ℕ) {w r : ℕ} → get_or mask p 0 ≤ 255 → r ≡ max w (min (get_or mask p 0) (255 - get_or mask p 0))
+    → (w ≡ 0 → Plain mask wide p) → r ≡ 0 → Plain mask wide (p + 1)
+plain_more mask wide p {w} {r} l e f z q lo hi some =
+    ⊎_elim (λ k. let h : get_or mask p 0 ≢ 0 = subst (λ (i : ℕ). get_or mask i 0 ≢ 0) k some in
+    subst (λ (i : ℕ). get_or mask i 0 ≡ 255) (sym k) (omega arith)) (λ k. f (omega arith) q lo k some) (up_to q p hi)
 
 -- the byte of a way at the index at + p
 pub way_byte : (mask : List ℕ) (at p turn wide x : ℕ) {r : ℕ} → r ≡ cond (opens_by (get_or mask (p + turn - wide) 0) x) (get_or mask p 0) 0
@@ -52,14 +39,7 @@ module _ (mask : List ℕ) (wide end x : ℕ) (before after : List ℕ) where
   pub forth_doors : {back : Bool} {turn : ℕ} → back ≡ false → turn ≡ turn_of wide x → Made turn (4 - x) → Door back
   forth_doors e t f = subst Door (sym e) (subst (λ (k : ℕ). Made k (4 - x)) t f)
 
--- the rows in use, as the code counts them
-pub rows_range : (w h : ℕ) → w ≤ 32 → h ≤ 32 → (1 ≤ w + 2) × (w + 2 ≤ 34) × (w + 2 ≤ (w + 2) * (h + 1)) × ((w + 2) * (h + 1) ≤ 1122)
-rows_range w h a b = let e = size_of w h in let f = size_small w h a b in (omega arith, omega arith, omega arith, omega arith)
-
--- what a step is given: no doors where no place is a lane, or the doors that were made
-module _ (mask : List ℕ) (w h : ℕ) {x y : ℕ} (ew : w ≡ x) (eh : h ≡ y) (back : Bool) (doors : List ℕ) where
-  pub given_plain : length doors ≡ 0 → Plain mask (w + 2) ((w + 2) * (h + 1)) → Doors mask x y back doors
-  given_plain e p = rw (← ew, ← eh) (record { none = λ _. p; five = λ n. absurd (n e) })
-
-  pub given_doors : DoorsTo 5 mask (w + 2) ((w + 2) * (h + 1)) back doors → Doors mask x y back doors
-  given_doors g = rw (← ew, ← eh) (record { none = λ e. absurd (omega (arith, g.size)); five = λ _. g })
+-- the doors that a pass has, as a list of bytes, which may be empty
+pub doors_of : (mask : List ℕ) (w h : ℕ) (back : Bool) (doors : Option (Bor (List ℕ))) → Passable mask w h back doors → Doors mask w h back (bytes_of doors)
+doors_of mask w h back None g = record { none = λ _. g.none refl; five = λ n. absurd (n refl) }
+doors_of mask w h back (Some ways) g = let f = g.five ways refl in record { none = λ e. absurd (omega (arith, f.size)); five = λ _. f }

@@ -5,3 +5,4 @@ pub mod Gating
 pub mod Stepping
 pub mod Advancing
 pub mod Keeping
+pub mod Copying

@@ -177,8 +177,7 @@ module _ (d : Sheet) (i : Carrier) (cs : List Constraint) (t : ℕ) (back : Bool
       leave : (u y : ℕ) → u < area d → y < 5 → T (free d u) → T (leaves d u y)
       leave u y a b h =
           let e = masked.inside u a in
-          ⊎_elim (λ z. absurd (gate_shut (free d u) (shade_gate d u) (sym e ∙ z) h)) (λ z. open_leaves d u y b (sym e ∙ z))
-          (plain (pad_of d.width u) (pad_least d u a) (pad_most d u a))
+          open_leaves d u y b (sym e ∙ plain (pad_of d.width u) (pad_least d u a) (pad_most d u a) (λ z. gate_shut (free d u) (shade_gate d u) (sym e ∙ z) h))
 
       go : (b : Bool) → T (free d v) → T (cond b (leaves d v x) (leaves d (place_by d v x) (way_back x)))
       go true h = leave v x on l h

@@ -1,5 +1,6 @@
 -- One step of a layer of labels: what the code's step comes to on the grid itself. Assumes nothing.
-use Rattle.std.specs.Prelude.{ℕ, ◌+◌, ◌*◌, ◌≤◌, ◌<◌, ◌≡◌, ◌⊎◌, ◌≢◌, Bool, cond, ◌&&◌, List, length, get_or, T, eqb}
+use Rattle.std.specs.Prelude.{ℕ, ◌+◌, ◌*◌, ◌≤◌, ◌<◌, ◌≡◌, ◌≢◌, Bool, cond, ◌&&◌, Option, None, Some, List, [], length, get_or, T, eqb}
+use Rattle.std.specs.Borrow.{Bor}
 use Rattle.deck.specs.Sheet.{Sheet, area, free}
 use Rattle.deck.specs.declared.Carrier.{Carrier}
 use Rattle.deck.specs.declared.Constraint.{Constraint}
@@ -42,7 +43,7 @@ pub record Margin (w h : ℕ) (x : List ℕ) : Type 0 where
 
 -- from wide to end - 1 no byte of the mask is that of a lane
 abbrev pub Plain : List ℕ → ℕ → ℕ → Type 0
-Plain mask wide end = (p : ℕ) → wide ≤ p → p < end → (get_or mask p 0 ≡ 0) ⊎ (get_or mask p 0 ≡ 255)
+Plain mask wide end = (p : ℕ) → wide ≤ p → p < end → get_or mask p 0 ≢ 0 → get_or mask p 0 ≡ 255
 
 -- the byte by which labels pass to the padded place p by the way x: that of p, if the place that is left may be left that way. Forward the
 -- place by the way x is left, by the way back; backward p itself is left
@@ -51,7 +52,7 @@ door_at mask wide back x p = cond (opens_by (get_or mask (move_by wide p (cond b
 
 -- these bytes of the first n ways
 pub record DoorsTo (n : ℕ) (mask : List ℕ) (wide end : ℕ) (back : Bool) (doors : List ℕ) : Type 0 where
-  pub size : length doors ≡ 6936
+  pub size : length doors ≡ 5780
   pub at : (x : ℕ) → x < n → (p : ℕ) → wide ≤ p → p < end → get_or doors (1156 * x + p) 0 ≡ door_at mask wide back x p
 
 -- the doors that a step is given: none where no place is a lane, and else the bytes of the five ways
@@ -59,13 +60,22 @@ pub record Doors (mask : List ℕ) (w h : ℕ) (back : Bool) (doors : List ℕ) 
   pub none : length doors ≡ 0 → Plain mask (w + 2) ((w + 2) * (h + 1))
   pub five : length doors ≢ 0 → DoorsTo 5 mask (w + 2) ((w + 2) * (h + 1)) back doors
 
+-- the same of a pass, which has these bytes or none
+pub record Passable (mask : List ℕ) (w h : ℕ) (back : Bool) (doors : Option (Bor (List ℕ))) : Type 0 where
+  pub none : doors ≡ None → Plain mask (w + 2) ((w + 2) * (h + 1))
+  pub five : (ways : Bor (List ℕ)) → doors ≡ Some ways → DoorsTo 5 mask (w + 2) ((w + 2) * (h + 1)) back ways.now
+
+abbrev pub bytes_of : Option (Bor (List ℕ)) → List ℕ
+bytes_of None = []
+bytes_of (Some ways) = ways.now
+
 -- the byte of the way x to p before the constraints: where there are no doors that of the place
 abbrev pub way_at : List ℕ → List ℕ → ℕ → ℕ → ℕ
 way_at mask doors x p = cond (eqb (length doors) 0) (get_or mask p 0) (get_or doors (1156 * x + p) 0)
 
 -- these bytes of the five ways
 pub record Copies (mask doors ways : List ℕ) : Type 0 where
-  pub size : length ways ≡ 6936
+  pub size : length ways ≡ 5780
   pub copied : (k : ℕ) → k < 5 → (p : ℕ) → p < 1156 → get_or ways (1156 * k + p) 0 ≡ way_at mask doors k p
 
 -- after the labels of src have gone one step at t: on every sheet that the numbers and the mask are those of

@@ -2,54 +2,42 @@
 // are kept, four bytes to a word.
 #![tactic(auto)]
 
-ghost use Rattle.std.specs.Prelude.{◌≡◌, ◌⊎◌, ◌≢◌, true, cond, [], ◌+◌, ◌-◌, ◌*◌, ◌/◌, ◌<◌, ◌≤◌, max, min, length, get_or};
+ghost use Rattle.std.specs.Prelude.{◌≡◌, true, cond, [], ◌+◌, ◌-◌, ◌*◌, ◌/◌, ◌<◌, ◌≤◌, length, get_or};
 ghost use Rattle.deck.specs.Calls.{constraints_of};
-ghost use Rattle.bars.specs.Ways.{opens_by};
-ghost use Rattle.bars.specs.Bars.{count_in, OnLayer, Chained};
+ghost use Rattle.bars.specs.Padded.{row_of, end_of};
+ghost use Rattle.bars.specs.Ways.{number_of, is_back, opens_by};
 ghost use Rattle.layers.specs.Fill.{Filled};
 ghost use Rattle.layers.specs.Spread.{spread_at, spread_by};
 ghost use Rattle.layers.specs.Raise.{bumped, Raised, Indexes};
-ghost use Rattle.layers.specs.Step.{Plain, door_at, DoorsTo, Doors, Copies, Advanced, Stepped, Seeded};
+ghost use Rattle.layers.specs.Step.{Plain, door_at, DoorsTo, Passable, bytes_of, Copies, Advanced, Stepped, Seeded};
 ghost use Rattle.layers.specs.Packed.{FourAt, Kept, byte_in, kept_at};
 
-use deck::Carrier;
-
-fn larger(a: u8, b: u8) -> u8
-    ensures { result ≡ max a b }
-{
-    if a < b { b } else { a }
-}
-
-fn smaller(a: u8, b: u8) -> u8
-    ensures { result ≡ min a b }
-{
-    if a < b { a } else { b }
-}
+use bars::{CELLS, Chains, Direction, Layer, Size, Way, Ways};
 
 // One step without constraints: one loop without branches, which the compiler turns into vector code.
-fn spread(src: &[u8; 1156], mask: &[u8; 1156], wide: usize, end: usize, dst: &mut [u8; 1156])
-    requires { (1 ≤ wide) × (wide ≤ 34) × (wide ≤ end) × (end ≤ 1122) × (length dst.old ≡ 1156) }
-    ensures { Filled wide end (spread_at src.now mask.now wide) dst.old dst.new }
+fn spread(src: &Layer, mask: &Layer, row: usize, end: usize, dst: &mut Layer)
+    requires { (1 ≤ row) × (row ≤ 34) × (row ≤ end) × (end ≤ 1122) × (length dst.old ≡ 1156) }
+    ensures { Filled row end (spread_at src.now mask.now row) dst.old dst.new }
 {
-    for p in wide..end {
-        let a = larger(src[p - wide], src[p - 1]);
-        let b = larger(src[p], src[p + 1]);
-        dst[p] = smaller(larger(larger(a, b), src[p + wide]), mask[p]);
+    for p in row..end {
+        let a = src[p - row].max(src[p - 1]);
+        let b = src[p].max(src[p + 1]);
+        dst[p] = a.max(b).max(src[p + row]).min(mask[p]);
     }
 }
 
 // One step where each way to a place has a mask of its own.
-fn spread_ways(src: &[u8; 1156], ways: &[u8], wide: usize, end: usize, dst: &mut [u8; 1156])
-    requires { (1 ≤ wide) × (wide ≤ 34) × (wide ≤ end) × (end ≤ 1122) × (length ways.now ≡ 6936) × (length dst.old ≡ 1156) }
-    ensures { Filled wide end (spread_by src.now ways.now wide) dst.old dst.new }
+fn spread_ways(src: &Layer, ways: &Ways, row: usize, end: usize, dst: &mut Layer)
+    requires { (1 ≤ row) × (row ≤ 34) × (row ≤ end) × (end ≤ 1122) × (length dst.old ≡ 1156) }
+    ensures { Filled row end (spread_by src.now ways.now row) dst.old dst.new }
 {
-    for p in wide..end {
-        let a = smaller(src[p - wide], ways[p]);
-        let b = smaller(src[p - 1], ways[1156 + p]);
-        let c = smaller(src[p], ways[2312 + p]);
-        let d = smaller(src[p + 1], ways[3468 + p]);
-        let e = smaller(src[p + wide], ways[4624 + p]);
-        dst[p] = larger(larger(larger(a, b), larger(c, d)), e);
+    for p in row..end {
+        let a = src[p - row].min(ways[p]);
+        let b = src[p - 1].min(ways[CELLS + p]);
+        let c = src[p].min(ways[2 * CELLS + p]);
+        let d = src[p + 1].min(ways[3 * CELLS + p]);
+        let e = src[p + row].min(ways[4 * CELLS + p]);
+        dst[p] = a.max(b).max(c.max(d)).max(e);
     }
 }
 
@@ -58,42 +46,29 @@ fn bump(b: u8, k: usize) -> u8
     requires { k < 8 }
     ensures { result ≡ bumped k b }
 {
-    if b as usize == k + 1 {
-        (k + 2) as u8
-    } else {
-        b
+    if usize::from(b) == k + 1 { b + 1 } else { b }
+}
+
+// Raises the layer at the goals, in their order, so that equal goals in succession count at once.
+fn raise(layer: &mut Layer, goals: &[usize])
+    requires { (length goals.now ≤ 8) × Indexes goals.now (length goals.now) × (length layer.old ≡ 1156) }
+    ensures { Raised goals.now (length goals.now) layer.old layer.new }
+{
+    for (k, goal) in goals.iter().enumerate() {
+        let p = *goal;
+        layer[p] = bump(layer[p], k);
     }
 }
 
-// Raises the layer at the first n goals, in their order, so that equal goals in succession count at once.
-pub fn raise(layer: &mut [u8; 1156], goals: &[usize; 8], n: usize)
-    requires { (n ≤ 8) × Indexes goals.now n × (length layer.old ≡ 1156) }
-    ensures { Raised goals.now n layer.old layer.new }
-{
-    for k in 0..n {
-        let g = goals[k];
-        layer[g] = bump(layer[g], k);
-    }
-}
-
-fn wide(x: u8) -> u32
-    ensures { (result ≡ x) × (result < 256) }
-{
-    x as u32
-}
-
-fn four(layer: &[u8; 1156], p: usize) -> u32
+fn four(layer: &Layer, p: usize) -> u32
     requires { p + 3 < 1156 }
     ensures { FourAt layer.now p result }
 {
-    wide(layer[p])
-        + 256 * wide(layer[p + 1])
-        + 65536 * wide(layer[p + 2])
-        + 16777216 * wide(layer[p + 3])
+    u32::from_le_bytes([layer[p], layer[p + 1], layer[p + 2], layer[p + 3]])
 }
 
 // Keeps the bytes of a layer from `from` on in words of the workspace from `at` on.
-pub fn keep(layer: &[u8; 1156], from: usize, words: usize, work: &mut [u32], at: usize)
+pub fn keep(layer: &Layer, from: usize, words: usize, work: &mut [u32], at: usize)
     requires { (from + 4 * words ≤ 1156) × (at + words ≤ length work.old) }
     ensures { Kept layer.now from at words work.old work.new }
 {
@@ -118,199 +93,142 @@ pub fn kept(work: &[u32], at: usize, k: usize) -> usize
     byte_of(work[at + k / 4], k % 4) as usize
 }
 
-// 0 for the byte of a place that is blocked or no lane.
-fn odd(m: u8) -> u8
-    ensures { result ≡ 0 → (m ≡ 0) ⊎ (m ≡ 255) }
-{
-    smaller(m, 255 - m)
-}
-
-// No place is a lane: one loop without branches, which the compiler turns into vector code.
-pub fn plain(mask: &[u8; 1156], wide: usize, end: usize) -> bool
-    requires { (wide ≤ end) × (end ≤ 1156) }
-    ensures { result ≡ true → Plain mask.now wide end }
+// No place is a lane: without a branch on the bytes, so that the compiler turns it into vector code.
+pub fn is_plain(mask: &Layer, size: Size) -> bool
+    ensures { result ≡ true → Plain mask.now (row_of size.width) (end_of size.width size.height) }
 {
     let mut worst = 0u8;
-    for p in wide..end {
-        worst = larger(worst, odd(mask[p]));
+    for p in size.row()..size.end() {
+        worst = worst.max(mask[p].min(255 - mask[p]));
     }
     worst == 0
 }
 
-// The byte of a place where the byte m has the bit of the way x, and else 0.
-fn through(byte: u8, m: u8, x: usize) -> u8
-    requires { x < 5 }
-    ensures { result ≡ cond (opens_by m x) byte 0 }
+// The byte of a place where the byte m has the bit of the way, and else 0.
+fn through(byte: u8, m: u8, way: Way) -> u8
+    ensures { result ≡ cond (opens_by m (number_of way)) byte 0 }
 {
-    if (m >> x) % 2 == 1 { byte } else { 0 }
+    if way.opens(m) { byte } else { 0 }
 }
 
-// The bytes of one way, from `at` on, where the place that is left lies `turn` - `wide` further and is left by the way x: one loop
+// The bytes of one way, from `at` on, where the place that is left lies `turn` - `row` further and is left by the way: one loop
 // without branches, which the compiler turns into vector code.
 fn fill_way(
-    mask: &[u8; 1156],
-    wide: usize,
+    mask: &Layer,
+    row: usize,
     end: usize,
     turn: usize,
-    x: usize,
+    way: Way,
     at: usize,
-    doors: &mut [u8; 6936],
+    doors: &mut Ways,
 )
-    requires { (wide ≤ 34) × (wide ≤ end) × (end ≤ 1122) × (turn ≤ 2 * wide) × (x < 5) × (at ≤ 5780) × (length doors.old ≡ 6936) }
-    ensures { Filled (at + wide) (at + end) (λ q. cond (opens_by (get_or mask.now (q - at + turn - wide) 0) x) (get_or mask.now (q - at) 0) 0) doors.old doors.new }
+    requires { (row ≤ 34) × (row ≤ end) × (end ≤ 1122) × (turn ≤ 2 * row) × (at ≤ 4624) × (length doors.old ≡ 5780) }
+    ensures { Filled (at + row) (at + end) (λ q. cond (opens_by (get_or mask.now (q - at + turn - row) 0) (number_of way)) (get_or mask.now (q - at) 0) 0) doors.old doors.new }
 {
-    for p in wide..end {
-        doors[at + p] = through(mask[p], mask[p + turn - wide], x);
+    for p in row..end {
+        doors[at + p] = through(mask[p], mask[p + turn - row], way);
     }
 }
 
-// The bytes of the way x, whose way back is y.
-fn way_doors(
-    mask: &[u8; 1156],
-    wide: usize,
-    end: usize,
-    back: bool,
-    x: usize,
-    doors: &mut [u8; 6936],
-)
-    requires { (1 ≤ wide) × (wide ≤ 34) × (wide ≤ end) × (end ≤ 1122) × (x < 5) × (length doors.old ≡ 6936) }
-    ensures { Filled (1156 * x + wide) (1156 * x + end) (λ q. door_at mask.now wide back x (q - 1156 * x)) doors.old doors.new }
+// The bytes of the way.
+fn way_doors(mask: &Layer, size: Size, direction: Direction, way: Way, doors: &mut Ways)
+    requires { length doors.old ≡ 5780 }
+    ensures { Filled (1156 * number_of way + row_of size.width) (1156 * number_of way + end_of size.width size.height) (λ q. door_at mask.now (row_of size.width) (is_back direction) (number_of way) (q - 1156 * number_of way)) doors.old doors.new }
 {
-    let y = 4 - x;
-    if back {
-        fill_way(mask, wide, end, wide, x, 1156 * x, doors);
-    } else {
-        fill_way(mask, wide, end, bars::turn(wide, x), y, 1156 * x, doors);
+    let row = size.row();
+    let at = CELLS * way as usize;
+    match direction {
+        Direction::Forward => fill_way(mask, row, size.end(), way.turn(row), way.back(), at, doors),
+        Direction::Backward => fill_way(mask, row, size.end(), row, way, at, doors),
     }
 }
 
 // Fills in, for each of the five ways, the bytes by which labels pass to the places, forward or backward, where some places are lanes.
 // In place, since a copy would cost a short path a measurable part of its time.
-pub fn fill_doors(mask: &[u8; 1156], wide: usize, end: usize, back: bool, doors: &mut [u8; 6936])
-    requires { (1 ≤ wide) × (wide ≤ 34) × (wide ≤ end) × (end ≤ 1122) × (length doors.old ≡ 6936) }
-    ensures { DoorsTo 5 mask.now wide end back doors.new }
+pub fn fill_doors(mask: &Layer, size: Size, direction: Direction, doors: &mut Ways)
+    requires { length doors.old ≡ 5780 }
+    ensures { DoorsTo 5 mask.now (row_of size.width) (end_of size.width size.height) (is_back direction) doors.new }
 {
-    for x in 0..5usize {
-        way_doors(mask, wide, end, back, x, doors);
-    }
-}
-
-// Copies the bytes to the ways from `at` on.
-fn copy_to(ways: &mut [u8; 6936], at: usize, bytes: &[u8])
-    requires { (at + length bytes.now ≤ 6936) × (length ways.old ≡ 6936) }
-    ensures { Filled at (at + length bytes.now) (λ x. get_or bytes.now (x - at) 0) ways.old ways.new }
-{
-    for p in 0..bytes.len() {
-        ways[at + p] = bytes[p];
+    for way in Way::ALL {
+        way_doors(mask, size, direction, way, doors);
     }
 }
 
 // The bytes of the five ways where there are no doors: from above, left, the place itself, right, below.
-fn copies_of(mask: &[u8; 1156]) -> [u8; 6936]
-    ensures { Copies mask.now [] result }
+fn copies_of(mask: &Layer) -> Ways
+    ensures { (length result ≡ 5780) × Copies mask.now [] result }
 {
-    let mut ways = [0u8; 6936];
-    copy_to(&mut ways, 0, mask);
-    copy_to(&mut ways, 1156, mask);
-    copy_to(&mut ways, 2312, mask);
-    copy_to(&mut ways, 3468, mask);
-    copy_to(&mut ways, 4624, mask);
-    ways
-}
-
-// The bytes of the five ways, none of them shut.
-fn ways_of(mask: &[u8; 1156], doors: &[u8]) -> [u8; 6936]
-    requires { length doors.now ≢ 0 → length doors.now ≡ 6936 }
-    ensures { Copies mask.now doors.now result }
-{
-    if doors.len() == 0 {
-        return copies_of(mask);
+    let mut ways = [0u8; 5780];
+    for k in 0..5usize {
+        let at = CELLS * k;
+        ways[at..at + CELLS].copy_from_slice(mask);
     }
-    let mut ways = [0u8; 6936];
-    copy_to(&mut ways, 0, doors);
     ways
 }
 
-// The labels one step on, or back: over all ways where the carrier has no constraint at t, and else over those that are left.
-fn advance(
-    mask: &[u8; 1156],
-    doors: &[u8],
-    w: usize,
-    h: usize,
-    records: &[u16],
-    i: Carrier,
-    heads: &[u16; 256],
-    links: &[u32],
-    t: usize,
-    back: bool,
-    src: &[u8; 1156],
-    dst: &mut [u8; 1156],
-)
-    requires { (1 ≤ w) × (w ≤ 32) × (1 ≤ h) × (h ≤ 32) × (t < 256) × (count_in records.now ≤ 4096) × OnLayer w records.now × Chained records.now i.0 heads.now links.now × Doors mask.now w h back doors.now × (length dst.old ≡ 1156) }
-    ensures { Advanced w h mask.now i (constraints_of records.now) t back src.now dst.old dst.new }
-{
-    let wide = w + 2;
-    let end = wide * (h + 1);
-    if heads[t] == 0 {
-        if doors.len() == 0 {
-            spread(src, mask, wide, end, dst);
-        } else {
-            spread_ways(src, doors, wide, end, dst);
+// What a pass over layers goes by: the constraints of the carrier, the mask of the grid, where some places are lanes the bytes of the
+// ways, the direction, and the goals as padded places, backward in reverse.
+pub struct Pass<'a> {
+    pub chains: &'a Chains<'a>,
+    pub mask: &'a Layer,
+    pub doors: Option<&'a Ways>,
+    pub direction: Direction,
+    pub goals: &'a [usize],
+    pub ghost passable: { Passable mask.now chains.now.size.width chains.now.size.height (is_back direction) doors },
+    pub ghost few_goals: { length goals.now ≤ 8 },
+    pub ghost goals_on: { Indexes goals.now (length goals.now) },
+}
+
+impl<'a> Pass<'a> {
+    // The bytes of the five ways, none of them shut.
+    fn ways(&self) -> Ways
+        ensures { Copies self.now.mask.now (bytes_of self.now.doors) result }
+    {
+        match self.doors {
+            Some(doors) => *doors,
+            None => copies_of(self.mask),
         }
-    } else {
-        let mut ways = ways_of(mask, doors);
-        bars::shut(records, i, heads, links, t, w, back, &mut ways);
-        spread_ways(src, &ways, wide, end, dst);
     }
-}
 
-// One step of a layer: the labels go one step at t, those on places barred at `on` are taken away, and the others are raised
-// by the goals. Backward the moves are turned round, and the goals are to be handed in in reverse.
-pub fn step(
-    mask: &[u8; 1156],
-    doors: &[u8],
-    w: usize,
-    h: usize,
-    records: &[u16],
-    i: Carrier,
-    heads: &[u16; 256],
-    links: &[u32],
-    t: usize,
-    on: usize,
-    back: bool,
-    goals: &[usize; 8],
-    n: usize,
-    src: &[u8; 1156],
-    dst: &mut [u8; 1156],
-)
-    requires { (1 ≤ w) × (w ≤ 32) × (1 ≤ h) × (h ≤ 32) × (t < 256) × (on < 256) × (count_in records.now ≤ 4096) × OnLayer w records.now × Chained records.now i.0 heads.now links.now × (n ≤ 8) × Indexes goals.now n × Doors mask.now w h back doors.now × (length dst.old ≡ 1156) }
-    ensures { Stepped w h mask.now i (constraints_of records.now) t on back goals.now n src.now dst.old dst.new }
-{
-    advance(
-        mask, doors, w, h, records, i, heads, links, t, back, src, dst,
-    );
-    bars::clear(records, i, heads, links, on, w, dst);
-    raise(dst, goals, n);
-}
+    // The labels one step on, or back: over all ways where the carrier has no constraint at t, and else over those that are left.
+    fn advance(&self, t: usize, src: &Layer, dst: &mut Layer)
+        requires { (t < 256) × (length dst.old ≡ 1156) }
+        ensures { Advanced self.now.chains.now.size.width self.now.chains.now.size.height self.now.mask.now self.now.chains.now.carrier (constraints_of self.now.chains.now.records.now) t (is_back self.now.direction) src.now dst.old dst.new }
+    {
+        let row = self.chains.size.row();
+        let end = self.chains.size.end();
+        if self.chains.is_free_at(t) {
+            match self.doors {
+                Some(doors) => spread_ways(src, doors, row, end, dst),
+                None => spread(src, self.mask, row, end, dst),
+            }
+        } else {
+            let mut ways = self.ways();
+            self.chains.shut(t, self.direction, &mut ways);
+            spread_ways(src, &ways, row, end, dst);
+        }
+    }
 
-// The first layer: a walk stands on the padded place p alone, where no constraint bars it at `on`.
-pub fn seed(
-    records: &[u16],
-    i: Carrier,
-    heads: &[u16; 256],
-    links: &[u32],
-    on: usize,
-    w: usize,
-    goals: &[usize; 8],
-    n: usize,
-    p: usize,
-) -> [u8; 1156]
-    requires { (1 ≤ w) × (w ≤ 32) × (on < 256) × (count_in records.now ≤ 4096) × OnLayer w records.now × Chained records.now i.0 heads.now links.now × (n ≤ 8) × Indexes goals.now n × (p < 1156) }
-    ensures { Seeded w i (constraints_of records.now) on goals.now n p result }
-{
-    let mut layer = [0u8; 1156];
-    layer[p] = 1;
-    bars::clear(records, i, heads, links, on, w, &mut layer);
-    raise(&mut layer, goals, n);
-    layer
+    // One step of a layer: the labels go one step at t, those on places barred at `on` are taken away, and the others are raised
+    // by the goals. Backward the moves are turned round.
+    pub fn step(&self, t: usize, on: usize, src: &Layer, dst: &mut Layer)
+        requires { (t < 256) × (on < 256) × (length dst.old ≡ 1156) }
+        ensures { Stepped self.now.chains.now.size.width self.now.chains.now.size.height self.now.mask.now self.now.chains.now.carrier (constraints_of self.now.chains.now.records.now) t on (is_back self.now.direction) self.now.goals.now (length self.now.goals.now) src.now dst.old dst.new }
+    {
+        self.advance(t, src, dst);
+        self.chains.clear(on, dst);
+        raise(dst, self.goals);
+    }
+
+    // The first layer: a walk stands on the padded place p alone, where no constraint bars it at `on`.
+    pub fn seed(&self, on: usize, p: usize) -> Layer
+        requires { (on < 256) × (p < 1156) }
+        ensures { Seeded self.now.chains.now.size.width self.now.chains.now.carrier (constraints_of self.now.chains.now.records.now) on self.now.goals.now (length self.now.goals.now) p result }
+    {
+        let mut layer = [0u8; CELLS];
+        layer[p] = 1;
+        self.chains.clear(on, &mut layer);
+        raise(&mut layer, self.goals);
+        layer
+    }
 }

@@ -1,5 +1,5 @@
 -- `layers::keep` meets its contract: the words passed are kept. Assumes nothing.
-use Prim.Native.Nat.{◌≤◌}
+use Rattle.std.proofs.Common.{◌≤◌}
 use Rattle.layers.specs.Packed.{Kept}
 use Rattle.layers.proofs.keep.Given as goal
 
