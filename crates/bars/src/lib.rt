@@ -234,6 +234,7 @@ fn stay_after(bar: Constraint, carrier: Carrier, g: usize) -> usize
 }
 
 // The constraints of one carrier on a grid of this size.
+#[derive(Drop)]
 pub struct Chains<'a> {
     pub size: Size,
     pub records: &'a [u16],

@@ -10,7 +10,7 @@ ghost use Rattle.layers.specs.Fill.{Filled};
 ghost use Rattle.layers.specs.Spread.{spread_at, spread_by};
 ghost use Rattle.layers.specs.Raise.{bumped, Raised, Indexes};
 ghost use Rattle.layers.specs.Step.{Plain, door_at, DoorsTo, Passable, bytes_of, Copies, Advanced, Stepped, Seeded};
-ghost use Rattle.layers.specs.Packed.{FourAt, Kept, byte_in, kept_at};
+ghost use Rattle.layers.specs.Packed.{FourAt, Kept, byte_in, kept_at, words_for};
 
 use bars::{CELLS, Chains, Direction, Layer, Size, Way, Ways};
 
@@ -67,13 +67,15 @@ fn four(layer: &Layer, p: usize) -> u32
     u32::from_le_bytes([layer[p], layer[p + 1], layer[p + 2], layer[p + 3]])
 }
 
-// Keeps the bytes of a layer from `from` on in words of the workspace from `at` on.
-pub fn keep(layer: &Layer, from: usize, words: usize, work: &mut [u32], at: usize)
-    requires { (from + 4 * words ≤ 1156) × (at + words ≤ length work.old) }
-    ensures { Kept layer.now from at words work.old work.new }
+// Keeps the rows of the layer of time t in their words, four bytes to a word.
+pub fn keep(layer: &Layer, size: Size, words: &mut [u32], t: usize)
+    requires { t * words_for size.width size.height + words_for size.width size.height ≤ length words.old }
+    ensures { Kept layer.now (row_of size.width) (t * words_for size.width size.height) (words_for size.width size.height) words.old words.new }
 {
-    for k in 0..words {
-        work[at + k] = four(layer, from + 4 * k);
+    let many = size.words();
+    let at = t * many;
+    for k in 0..many {
+        words[at + k] = four(layer, size.row() + 4 * k);
     }
 }
 
@@ -168,6 +170,7 @@ fn copies_of(mask: &Layer) -> Ways
 
 // What a pass over layers goes by: the constraints of the carrier, the mask of the grid, where some places are lanes the bytes of the
 // ways, the direction, and the goals as padded places, backward in reverse.
+#[derive(Clone, Copy)]
 pub struct Pass<'a> {
     pub chains: &'a Chains<'a>,
     pub mask: &'a Layer,

@@ -1,42 +1,29 @@
 -- The mask, made row by row out of the sheet's grid bytes. Assumes nothing.
-use Prim.Native.Nat.{ℕ, zero, suc, ◌+◌, ◌-◌, ◌*◌, ◌≤◌, ◌<◌, max}
-use mathlib.Core.Path.{◌≡◌, refl, sym, ap, ◌∙◌, subst}
-use mathlib.Core.Logic.{◌⊎◌, inl, inr, ⊎_elim}
-use mathlib.Core.Bool.{Bool, true, cond}
-use mathlib.Core.List.{List}
-use native.Mathlib.Nat.{eq-or-lt_of_le, mul-add, add-mul, suc-mul, mul_comm, mul-le-mul_right, div-lt_iff_lt-mul}
-use native.Mathlib.Omega.{arith}
-use lib.ListN.{length, get_or, drop, replicate, length-replicate, get_or-replicate, get_or-eq_default}
-use lib.Seq.{get_or-take, get_or-drop}
-use lib.Dec.{T, eqb, ltb, ltb→lt}
+use Rattle.std.proofs.Common.{ℕ, zero, suc, ◌+◌, ◌-◌, ◌*◌, ◌≤◌, ◌<◌, max, ◌≡◌, refl, sym, ap, ◌∙◌, subst, true, List, [], ◌∷◌, length, get_or, take, drop, replicate, None, T, ltb, arith}
+use Rattle.std.specs.List.{fold, between}
+use mathlib.Core.Logic.{⊎_elim}
+use native.Mathlib.Nat.{mul-add, add-mul, suc-mul, mul_comm, mul-le-mul_right, div-lt_iff_lt-mul}
+use lib.ListN.{length-replicate, get_or-replicate, get_or-eq_default}
+use lib.Dec.{ltb→lt}
 use borrow.Author.Tests.{lt-ltb}
-use Rattle.std.specs.Prelude.{None}
+use Rattle.std.proofs.lemmas.List.Edits.{length-between, get_or-between}
 use Rattle.deck.specs.Sheet.{Sheet, read, area, cause, grid_pair, grid_stretch}
 use Rattle.meaning.proofs.Accepted.{accepted, accepted_inside, directory_says}
-use Rattle.sheet.proofs.Accepted.{width_range, height_range}
+use Rattle.sheet.proofs.Accepted.{width_range, height_range, grid_length}
 use Rattle.kernel.proofs.Choice.{lt_or_ge}
 use Rattle.bars.specs.Padded.{pad_of, shade_of, shade, MaskOf}
 use Rattle.bars.proofs.Grid.{pad_row, size_of, size_small}
 use Rattle.layers.specs.Fill.{Filled}
 use Rattle.mask.specs.Mask.{Most, Plain, Masked}
 
--- without lanes one test tells a byte
-pub plain_shade : (b : ℕ) → b ≤ 1 → cond (eqb b 1) 0 255 ≡ shade_of b
-plain_shade zero l = refl
-plain_shade (suc zero) l = refl
-plain_shade (suc (suc b)) l = absurd (omega arith)
-
--- the greatest of the bytes passed
-module _ (s : List ℕ) (from : ℕ) where
-  pub most_none : (r : ℕ) → Most s from 0 r
-  most_none r k h = absurd (omega arith)
-
-  pub most_more : (n r next : ℕ) → next ≡ max r (get_or s (from + n) 0) → Most s from n r → Most s from (n + 1) next
-  most_more n r next e m k h = go (eq-or-lt_of_le h)
-    where
-      go : (suc k ≡ n + 1) ⊎ (suc k < n + 1) → get_or s (from + k) 0 ≤ next
-      go (inl i) = let q : k ≡ n = omega arith in rw q (omega arith)
-      go (inr l) = omega (arith, m k (omega arith))
+-- none of the bytes is greater than the greatest
+pub most_fold : (a : ℕ) (l : List ℕ) → (a ≤ fold max a l) × Most l (fold max a l)
+most_fold a [] = (omega arith, λ k h. absurd (omega arith))
+most_fold a (b ∷ l) = let r = most_fold (max a b) l in (omega (arith, r.0), at r)
+  where
+    at : (max a b ≤ fold max (max a b) l) × Most l (fold max (max a b) l) → Most (b ∷ l) (fold max (max a b) l)
+    at r zero h = omega (arith, r.0)
+    at r (suc k) h = r.1 k (omega arith)
 
 module _ (s : List ℕ) (ok : cause s ≡ None) where
   abbrev d : Sheet
@@ -45,40 +32,58 @@ module _ (s : List ℕ) (ok : cause s ≡ None) where
   abbrev w : ℕ
   w = (read s).width
 
-  -- where the grid begins
-  abbrev o : ℕ
-  o = (grid_stretch s).offset
+  z : 0 < w
+  z = (width_range s ok).0
 
   grid_size : (grid_stretch s).size ≡ area d
   grid_size = ((directory_says s).fact (accepted s ok).directory).0.0.1
 
-  grid_inside : o + area d ≤ length s
+  pub grid_inside : (grid_stretch s).offset + area d ≤ length s
   grid_inside = let e = accepted_inside s ok grid_pair (omega arith) in omega (arith, grid_size)
 
-  -- a grid byte
-  grid_at : (v : ℕ) → v < area d → get_or d.grid v 0 ≡ get_or s (o + v) 0
-  grid_at v h = get_or-take (grid_stretch s).size (drop (grid_stretch s).offset s) v 0 (omega (arith, grid_size)) ∙ get_or-drop (grid_stretch s).offset s v 0
+  -- the part of the sheet with the grid's bytes
+  pub grid_part : {o n : ℕ} → o ≡ (grid_stretch s).offset → n ≡ area d → take (o + n - o) (drop o s) ≡ d.grid
+  grid_part {o} {n} e f = let q : o + n - o ≡ (grid_stretch s).size = omega (arith, grid_size) in rw (q, e) refl
 
-  shade_at : (v : ℕ) → v < area d → shade_of (get_or s (o + v) 0) ≡ shade d v
+  shade_at : (v : ℕ) → v < area d → shade_of (get_or d.grid v 0) ≡ shade d v
   unfolding shade
-  shade_at v h = rw (lt-ltb v (area d) h, grid_at v h) refl
-
-  z : 0 < w
-  z = (width_range s ok).0
+  shade_at v h = rw (lt-ltb v (area d) h) refl
 
   rows_in : (y : ℕ) → y < d.height → y * w + w ≤ area d
   rows_in y h = omega (arith, suc-mul y w, mul-le-mul_right w h, mul_comm d.height w)
 
-  -- what one row asks
-  pub row_asks : (y : ℕ) → y < d.height → (o + y * w + w ≤ length s) × (y * (w + 2) + w + 3 + w ≤ 1156)
-  row_asks y h = (
-    omega (arith, grid_inside, rows_in y h),
-    omega (arith, suc-mul y (w + 2), mul-le-mul_right (w + 2) h, mul_comm d.height (w + 2), size_of w d.height, mul-add (w + 2) d.height 1, size_small w d.height (width_range s ok).1 (height_range s ok).1, (width_range s ok).1, (height_range s ok).1),
+  -- a row of the grid: its length, its bytes, and where the mask has room for it
+  abbrev row : ℕ → List ℕ
+  row y = between (y * w) (y * w + w) d.grid
+
+  pub row_end : (y : ℕ) → y < d.height → y * w + w ≤ length d.grid
+  row_end y h = omega (arith, rows_in y h, grid_length s ok)
+
+  row_length : (y : ℕ) → y < d.height → length (row y) ≡ w
+  row_length y h = length-between d.grid (y * w) (y * w + w) (row_end y h) ∙ omega arith
+
+  row_at : (y x : ℕ) → x < w → get_or (row y) x 0 ≡ get_or d.grid (y * w + x) 0
+  row_at y x h = get_or-between d.grid (y * w) (y * w + w) x 0 (omega arith)
+
+  pub row_room : (y : ℕ) → y < d.height → y * (w + 2) + w + 3 + length (row y) ≤ 1156
+  row_room y h = omega (
+    arith,
+    row_length y h,
+    suc-mul y (w + 2),
+    mul-le-mul_right (w + 2) h,
+    mul_comm d.height (w + 2),
+    size_of w d.height,
+    mul-add (w + 2) d.height 1,
+    size_small w d.height (width_range s ok).1 (height_range s ok).1,
+    (width_range s ok).1,
+    (height_range s ok).1,
   )
 
-  -- the grid as a whole, and its rows
-  pub grid_asks : {w1 h1 o1 : ℕ} → w1 ≡ w → h1 ≡ d.height → o1 ≡ o → (w1 * h1 ≤ 1024) × (o1 + w1 * h1 ≤ length s)
-  grid_asks ew eh eo = rw (ew, eh, eo) (size_small w d.height (width_range s ok).1 (height_range s ok).1, grid_inside)
+  -- of bytes without lanes each row is without lanes
+  pub row_plain : (y : ℕ) → y < d.height → fold max 0 d.grid < 2 → Plain (row y)
+  row_plain y h l k b =
+      let x : k < w = omega (arith, row_length y h) in
+      rw (row_at y k x) (omega (arith, (most_fold 0 d.grid).1 (y * w + k) (omega (arith, row_end y h))))
 
   pub mask_none : Masked d 0 (replicate 1156 0)
   mask_none = record { size = length-replicate {A = ℕ} 1156 0; inside = λ v h. absurd (omega arith); border = λ p b. zeros p }
@@ -89,7 +94,7 @@ module _ (s : List ℕ) (ok : cause s ≡ None) where
 
   -- one row more
   pub mask_more : (y : ℕ) → y < d.height → (before after : List ℕ) → Masked d (y * w) before
-      → Filled (y * (w + 2) + w + 3) (y * (w + 2) + w + 3 + w) (λ p. shade_of (get_or s (o + y * w + (p - (y * (w + 2) + w + 3))) 0)) before after
+      → Filled (y * (w + 2) + w + 3) (y * (w + 2) + w + 3 + length (row y)) (λ p. shade_of (get_or (row y) (p - (y * (w + 2) + w + 3)) 0)) before after
       → Masked d ((y + 1) * w) after
   mask_more y h before after m f =
       let e : (y + 1) * w ≡ y * w + w = omega (arith, add-mul y 1 w) in
@@ -100,7 +105,7 @@ module _ (s : List ℕ) (ok : cause s ≡ None) where
             (λ a. f.below p a ∙ m.border p (λ v l. b v (omega arith)))
             (λ a. ⊎_elim
             (λ c. absurd (b (y * w + (p - (y * (w + 2) + w + 3))) (omega arith) (pad_row w y (p - (y * (w + 2) + w + 3)) z (omega arith) ∙ omega arith)))
-            (λ c. f.above p c ∙ m.border p (λ v l. b v (omega arith))) (lt_or_ge p (y * (w + 2) + w + 3 + w)))
+            (λ c. f.above p (omega (arith, row_length y h)) ∙ m.border p (λ v l. b v (omega arith))) (lt_or_ge p (y * (w + 2) + w + 3 + w)))
             (lt_or_ge p (y * (w + 2) + w + 3));
       })
     where
@@ -112,8 +117,11 @@ module _ (s : List ℕ) (ok : cause s ≡ None) where
           let x : ℕ = v - y * w in
           let q : v ≡ y * w + x = omega arith in
           let p : pad_of w v ≡ y * (w + 2) + w + 3 + x = ap (pad_of w) q ∙ pad_row w y x z (omega arith) in
-          let g : o + y * w + (pad_of w v - (y * (w + 2) + w + 3)) ≡ o + v = omega arith in
-          f.inside (pad_of w v) (omega arith) (omega arith) ∙ ap (λ (k : ℕ). shade_of (get_or s k 0)) g ∙ shade_at v (omega (arith, rows_in y h))
+          let g : pad_of w v - (y * (w + 2) + w + 3) ≡ x = omega arith in
+          f.inside (pad_of w v) (omega arith) (omega (arith, row_length y h))
+          ∙ ap (λ (k : ℕ). shade_of (get_or (row y) k 0)) g
+          ∙ ap shade_of (row_at y x (omega arith) ∙ ap (λ (k : ℕ). get_or d.grid k 0) (sym q))
+          ∙ shade_at v (omega (arith, rows_in y h))
 
   pub mask_all : (n : ℕ) (mask : List ℕ) → n ≡ d.height → Masked d (n * w) mask → MaskOf d mask
   mask_all n mask e m =
@@ -121,23 +129,21 @@ module _ (s : List ℕ) (ok : cause s ≡ None) where
       record { size = m.size; inside = λ v h. m.inside v (omega arith); border = λ p b. m.border p (λ v h. b v (omega arith)) }
 
   -- the same in the numbers of the code
-  module _ {w1 o1 : ℕ} (ew : w1 ≡ w) (eo : o1 ≡ o) (y : ℕ) (h : y < d.height) where
-    pub code_asks : (o1 + y * w1 + w1 ≤ length s) × (y * (w1 + 2) + w1 + 3 + w1 ≤ 1156)
-    code_asks = rw (ew, eo) (row_asks y h)
+  module _ {w1 : ℕ} {grid : List ℕ} (ew : w1 ≡ w) (eg : grid ≡ d.grid) (y : ℕ) (h : y < d.height) where
+    abbrev code_row : List ℕ
+    code_row = take (y * w1 + w1 - y * w1) (drop (y * w1) grid)
 
-    -- of bytes without lanes each row is without lanes
-    pub code_plain : {h1 most : ℕ} {plain : Bool} → h1 ≡ d.height → Most s o1 (w1 * h1) most → plain ≡ ltb most 2 → plain ≡ true → Plain s (o1 + y * w1) w1
-    code_plain {h1} {most} {plain} eh m e t k b =
-        let z : most < 2 = ltb→lt most 2 (subst T (sym (sym e ∙ t)) tt) in
-        let q : o1 + y * w1 + k ≡ o1 + (y * w1 + k) = omega arith in
-        let r : y * w1 + w1 ≤ w1 * h1 = rw (ew, eh) (rows_in y h) in
-        rw q (omega (arith, m (y * w1 + k) (omega arith)))
+    pub code_end : y * w1 + w1 ≤ length grid
+    code_end = rw (ew, eg) (row_end y h)
 
-    pub code_more : (before after : List ℕ) → Masked d (y * w1) before
-        → Filled (y * (w1 + 2) + w1 + 3) (y * (w1 + 2) + w1 + 3 + w1) (λ p. shade_of (get_or s (o1 + y * w1 + (p - (y * (w1 + 2) + w1 + 3))) 0)) before after
-        → Masked d ((y + 1) * w1) after
-    code_more before after m f =
-        subst (λ (k : ℕ). Masked d ((y + 1) * k) after) (sym ew)
-        (mask_more y h before after (subst (λ (k : ℕ). Masked d (y * k) before) ew m)
-        (subst (λ (k : ℕ). Filled (y * (w + 2) + w + 3) (y * (w + 2) + w + 3 + w) (λ p. shade_of (get_or s (k + y * w + (p - (y * (w + 2) + w + 3))) 0)) before after) eo
-        (subst (λ (k : ℕ). Filled (y * (k + 2) + k + 3) (y * (k + 2) + k + 3 + k) (λ p. shade_of (get_or s (o1 + y * k + (p - (y * (k + 2) + k + 3))) 0)) before after) ew f)))
+    pub code_asks : (y * (w1 + 2) + w1 + 3 + length code_row ≤ 1156) × (ltb (fold max 0 grid) 2 ≡ true → Plain code_row)
+    code_asks = (rw (ew, eg) (row_room y h), λ t. rw (ew, eg) (row_plain y h (ltb→lt (fold max 0 d.grid) 2 (subst (λ (g : List ℕ). T (ltb (fold max 0 g) 2)) eg (subst T (sym t) tt)))))
+
+    pub code_more : (before after : List ℕ) → Masked d (y * w) before
+        → Filled (y * (w1 + 2) + w1 + 3) (y * (w1 + 2) + w1 + 3 + length code_row) (λ p. shade_of (get_or code_row (p - (y * (w1 + 2) + w1 + 3)) 0)) before after
+        → Masked d ((y + 1) * w) after
+    code_more before after m f = mask_more y h before after m
+        (subst (λ (l : List ℕ). Filled (y * (w + 2) + w + 3) (y * (w + 2) + w + 3 + length (take (y * w + w - y * w) (drop (y * w) l)))
+        (λ p. shade_of (get_or (take (y * w + w - y * w) (drop (y * w) l)) (p - (y * (w + 2) + w + 3)) 0)) before after) eg
+        (subst (λ (k : ℕ). Filled (y * (k + 2) + k + 3) (y * (k + 2) + k + 3 + length (take (y * k + k - y * k) (drop (y * k) grid)))
+        (λ p. shade_of (get_or (take (y * k + k - y * k) (drop (y * k) grid)) (p - (y * (k + 2) + k + 3)) 0)) before after) ew f))

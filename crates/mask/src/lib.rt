@@ -1,11 +1,15 @@
 // The mask of an accepted sheet: which places are free, and by which ways they may be left, on the padded grid.
 #![tactic(auto)]
 
-ghost use Rattle.std.specs.Prelude.{◌≡◌, true, cond, ◌+◌, ◌-◌, ◌≤◌, max, length, get_or, replicate, eqb, None};
-ghost use Rattle.deck.specs.Sheet.{read, cause};
+ghost use Rattle.std.specs.Prelude.{◌≡◌, true, cond, ◌+◌, ◌-◌, ◌≤◌, max, length, get_or, replicate, eqb};
+ghost use Rattle.std.specs.List.{fold};
+ghost use Rattle.deck.specs.Sheet.{read};
 ghost use Rattle.bars.specs.Padded.{shade_of, MaskOf};
 ghost use Rattle.layers.specs.Fill.{Filled};
-ghost use Rattle.mask.specs.Mask.{Most, Plain};
+ghost use Rattle.mask.specs.Mask.{Plain};
+
+use bars::{CELLS, Layer};
+use sheet::AcceptedSheet;
 
 // x where the byte b is k, else y.
 fn either(b: u8, k: u8, x: u8, y: u8) -> u8
@@ -30,55 +34,51 @@ fn shade(b: u8, plain: bool) -> u8
     either(b, 1, 0, north)
 }
 
-// One row of the mask: w grid bytes of the sheet from `from` on, at the padded place `at`.
-fn mask_row(s: &[u8], from: usize, at: usize, w: usize, plain: bool, mask: &mut [u8; 1156])
-    requires { (from + w ≤ length s.now) × (at + w ≤ 1156) × (length mask.old ≡ 1156) × (plain ≡ true → Plain s.now from w) }
-    ensures { Filled at (at + w) (λ p. shade_of (get_or s.now (from + (p - at)) 0)) mask.old mask.new }
+// One row of the mask, of these grid bytes, at the padded place `at`.
+fn mask_row(row: &[u8], at: usize, plain: bool, mask: &mut Layer)
+    requires { (at + length row.now ≤ 1156) × (length mask.old ≡ 1156) × (plain ≡ true → Plain row.now) }
+    ensures { Filled at (at + length row.now) (λ p. shade_of (get_or row.now (p - at) 0)) mask.old mask.new }
 {
-    for x in 0..w {
-        mask[at + x] = shade(s[from + x], plain);
+    for (x, b) in row.iter().enumerate() {
+        mask[at + x] = shade(*b, plain);
     }
 }
 
-fn larger(a: u8, b: u8) -> u8
-    ensures { result ≡ max a b }
+// The greatest of the bytes: without a branch on them, so that the compiler turns it into vector code.
+fn greatest(bytes: &[u8]) -> u8
+    ensures { result ≡ fold max 0 bytes.now }
 {
-    if a < b { b } else { a }
+    bytes.iter().fold(0, |most, b| most.max(*b))
 }
 
-// The greatest of n bytes of the sheet from `from` on: one loop without branches, which the compiler turns into vector code.
-fn greatest(s: &[u8], from: usize, n: usize) -> u8
-    requires { from + n ≤ length s.now }
-    ensures { Most s.now from n result }
+// The grid's bytes.
+fn grid_of<'a>(sheet: &AcceptedSheet<'a>) -> &'a [u8]
+    ensures { result.now ≡ (read sheet.now.bytes.now).grid }
 {
-    let mut most = 0u8;
-    for k in 0..n {
-        most = larger(most, s[from + k]);
-    }
-    most
+    let from = sheet.grid_offset();
+    &sheet.bytes[from..from + sheet.area()]
 }
 
 // Makes zeros the mask of an accepted sheet: on the padded grid, 0 off the grid. In place, since a copy would cost a short path a
 // measurable part of its time.
-pub fn fill(s: &[u8], mask: &mut [u8; 1156])
-    requires { (cause s.now ≡ None) × (mask.old ≡ replicate 1156 0) }
-    ensures { MaskOf (read s.now) mask.new }
+pub fn fill(sheet: &AcceptedSheet, mask: &mut Layer)
+    requires { mask.old ≡ replicate 1156 0 }
+    ensures { MaskOf (read sheet.now.bytes.now) mask.new }
 {
-    let w = sheet::width(s);
-    let h = sheet::height(s);
-    let grid = sheet::grid_offset(s);
-    let plain = greatest(s, grid, w * h) < 2;
-    for y in 0..h {
-        mask_row(s, grid + y * w, y * (w + 2) + w + 3, w, plain, mask);
+    let w = sheet.width();
+    let grid = grid_of(sheet);
+    let plain = greatest(grid) < 2;
+    for y in 0..sheet.height() {
+        let row = &grid[y * w..y * w + w];
+        mask_row(row, y * (w + 2) + w + 3, plain, mask);
     }
 }
 
 // The mask of an accepted sheet.
-pub fn mask_of(s: &[u8]) -> [u8; 1156]
-    requires { cause s.now ≡ None }
-    ensures { MaskOf (read s.now) result }
+pub fn mask_of(sheet: &AcceptedSheet) -> Layer
+    ensures { MaskOf (read sheet.now.bytes.now) result }
 {
-    let mut mask = [0u8; 1156];
-    fill(s, &mut mask);
+    let mut mask = [0u8; CELLS];
+    fill(sheet, &mut mask);
     mask
 }

@@ -1,5 +1,5 @@
 -- What a ready sheet with good records gives. Assumes nothing.
-use Prim.Native.Nat.{ℕ, zero, suc, ◌+◌, ◌*◌, ◌/◌, ◌%◌, ◌≤◌, ◌<◌}
+use Prim.Native.Nat.{ℕ, zero, suc, ◌/◌, ◌%◌, ◌≤◌, ◌<◌}
 use mathlib.Core.Path.{◌≡◌, sym, ◌∙◌, subst}
 use mathlib.Core.Bool.{Bool}
 use mathlib.Core.List.{List, Memᴰ as Mem}
@@ -25,7 +25,6 @@ use Rattle.bars.specs.Padded.{pad_of}
 use Rattle.bars.specs.Bars.{count_in, Timely, OnLayer}
 use Rattle.bars.proofs.Grid.{pad_most, size_of, size_small}
 use Rattle.bars.proofs.Records.{mem_record}
-use Rattle.layers.proofs.Gating.{rows_range}
 use Rattle.passes.specs.Ready.{Ready}
 
 says_itself : {b : Bool} → Says b (T b)
@@ -115,9 +114,6 @@ module _ {s : List ℕ} {i : Carrier} {j : Task} {mask rs : List ℕ} (r : Ready
   pad_small v h = omega (arith, pad_most (read s) v h, size_of (read s).width (read s).height, size_small (read s).width (read s).height wide_most high_most, wide_most, high_most)
 
   -- the rows in use
-  pub rows_in : (w h : ℕ) → w ≡ (read s).width → h ≡ (read s).height → (1 ≤ w + 2) × (w + 2 ≤ 34) × (w + 2 ≤ (w + 2) * (h + 1)) × ((w + 2) * (h + 1) ≤ 1122)
-  rows_in w h ew eh = rows_range w h (omega (arith, wide_most)) (omega (arith, high_most))
-
   pub few_records : count_in rs ≤ 4096
   few_records = good_count (read s) rs r.records
 

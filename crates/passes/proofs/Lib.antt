@@ -2,3 +2,4 @@ pub mod Given
 pub mod Turning
 pub mod Passing
 pub mod Backing
+pub mod OnCourse

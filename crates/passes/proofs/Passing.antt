@@ -1,15 +1,19 @@
 -- The code's layers are the layers of the two passes. Assumes nothing.
 use Prim.Native.Nat.{ℕ, suc, ◌+◌, ◌-◌, ◌≤◌, ◌<◌}
 use mathlib.Core.Path.{◌≡◌, refl, sym, ap, ◌∙◌, subst}
-use mathlib.Core.Logic.{⊎_elim}
-use mathlib.Core.Bool.{Bool, true, false, ◌&&◌}
+use mathlib.Core.Logic.{◌⊎◌, inl, inr, ⊎_elim}
+use Rattle.std.specs.Prelude.{Option, None, Some}
+use Rattle.std.specs.Option.{unwrap_or}
+use Rattle.std.proofs.lemmas.Option.{none-some}
+use mathlib.Core.Bool.{Bool, true, false, cond, ◌&&◌}
 use mathlib.Core.List.{List, reverse}
 use native.Mathlib.Nat.{eq-or-lt_of_le}
 use native.Mathlib.Numerals.{add-one}
 use native.Mathlib.Omega.{arith}
-use lib.ListN.{length, get_or, replicate, length-replicate, get_or-replicate, get_or-eq_default}
-use lib.Dec.{T, leb, ltb, leb→le, le→leb, ltb→lt, lt→ltb}
-use Rattle.deck.specs.Sheet.{Sheet, read, area, carrier, start_of, goals_of, last_goal}
+use lib.ListN.{length, get_or, replicate, length-reverse, length-replicate, get_or-replicate, get_or-eq_default}
+use lib.Dec.{T, eqb, leb, ltb, leb→le, le→leb, ltb→lt, lt→ltb}
+use borrow.Author.Tests.{eqb-true, eqb-false}
+use Rattle.deck.specs.Sheet.{Sheet, read, area, start_of, goals_of, last_goal}
 use Rattle.deck.specs.Calls.{constraints_of}
 use Rattle.deck.specs.declared.Carrier.{Carrier}
 use Rattle.deck.specs.declared.Task.{Task}
@@ -23,13 +27,12 @@ use Rattle.kernel.proofs.Choice.{lt_or_ge}
 use Rattle.kernel.proofs.Blocked.{fore_blocked, hind_blocked}
 use Rattle.kernel.proofs.Bounds.{fore_le, hind_le}
 use Rattle.bars.specs.Padded.{pad_of, Holds}
-use Rattle.bars.specs.Bars.{count_in, OnLayer, Chained}
 use Rattle.layers.specs.Raise.{GoalsAt, Indexes}
-use Rattle.layers.specs.Step.{next_layer, Ground, Labels, Margin, Doors, Stepped, Seeded}
+use Rattle.layers.specs.Step.{next_layer, Ground, Labels, Margin, Stepped, Seeded}
 use Rattle.layers.proofs.Stepping.{holds_margin}
-use Rattle.passes.specs.Ready.{Ready, Goals, Turned, Early}
+use Rattle.passes.specs.Ready.{Ready, Sized, GoalsOf, Turned, Early}
 use Rattle.passes.proofs.Turning.{reverse_at, goals_index}
-use Rattle.passes.proofs.Given.{wide_one, wide_most, high_one, high_most, begins_free, ends_free, few_goals, few_labels, all_counted, few_records, on_layer, pad_small}
+use Rattle.passes.proofs.Given.{begins_free, ends_free, few_goals, few_labels, all_counted, pad_small}
 
 pub holds_same : {d : Sheet} {x : List ℕ} {f g : ℕ → ℕ} → ((v : ℕ) → f v ≡ g v) → Holds d x f → Holds d x g
 holds_same e h = record { size = h.size; inside = λ v l. h.inside v l ∙ e v; border = h.border }
@@ -57,76 +60,68 @@ module _ (s : List ℕ) (i : Carrier) (j : Task) (mask rs : List ℕ) (r : Ready
     blocked = hind_blocked d i j cs (ends_free r) n t;
   }
 
-  module _ (w n : ℕ) (ew : w ≡ (read s).width) (en : n ≡ many) (goals : List ℕ) where
-    pub forth_at : Goals s j goals → GoalsAt w (goals_of d j) goals n
-    forth_at g = rw (ew, en) g
+  -- On a grid of the sheet's size, with these goals
+  module _ (w h : ℕ) (sized : Sized s w h) where
+    ground : Ground d w h mask
+    ground = record { width = sym sized.0; height = sym sized.1; masked = r.masked }
 
-    pub back_at : Turned s j goals → GoalsAt w (reverse (goals_of d j)) goals n
-    back_at g = rw (ew, en) g
+    margin : {x : List ℕ} → Margin d.width d.height x → Margin w h x
+    margin {x} m = rw (sized.0, sized.1) m
 
-    pub forth_index : Goals s j goals → Indexes goals n
-    forth_index g = goals_index w (goals_of d j) goals n (forth_at g) (λ k l. rw ew (pad_small r (get_or (goals_of d j) k 0) (goal_on_grid s r.accepted j k)))
-
-    pub back_index : Turned s j goals → Indexes goals n
-    back_index g = goals_index w (reverse (goals_of d j)) goals n (back_at g)
-        (λ k l. rw (ew, reverse_at (goals_of d j) k (omega arith)) (pad_small r (get_or (goals_of d j) (many - 1 - k) 0) (goal_on_grid s r.accepted j (many - 1 - k))))
-
-    -- what a step asks
-    pub step_asks : (h : ℕ) → h ≡ (read s).height → (t on : ℕ) → t < 256 → on < 256 → {heads links : List ℕ} → Chained rs i.0 heads links
-        → Indexes goals n → (back : Bool) (doors : List ℕ) → Doors mask (read s).width (read s).height back doors → (dst : List ℕ) → length dst ≡ 1156
-        → (1 ≤ w) × (w ≤ 32) × (1 ≤ h) × (h ≤ 32) × (t < 256) × (on < 256) × (count_in rs ≤ 4096) × OnLayer w rs × Chained rs i.0 heads links × (n ≤ 8) × Indexes goals n
-        × Doors mask w h back doors × (length dst ≡ 1156)
-    step_asks h eh t on a b c g back doors given dst e = (
-      omega (arith, wide_one r),
-      omega (arith, wide_most r),
-      omega (arith, high_one r),
-      omega (arith, high_most r),
-      a,
-      b,
-      few_records r,
-      rw ew (on_layer r),
-      c,
-      omega (arith, few_goals r),
-      g,
-      rw (ew, eh) given,
-      e,
-    )
-
-    -- what the first layer asks
-    pub seed_asks : (on p : ℕ) → on < 256 → p < 1156 → {heads links : List ℕ} → Chained rs i.0 heads links → Indexes goals n
-        → (1 ≤ w) × (w ≤ 32) × (on < 256) × (count_in rs ≤ 4096) × OnLayer w rs × Chained rs i.0 heads links × (n ≤ 8) × Indexes goals n × (p < 1156)
-    seed_asks on p b l c g = (omega (arith, wide_one r), omega (arith, wide_most r), b, few_records r, rw ew (on_layer r), c, omega (arith, few_goals r), g, l)
-
-    ground : (h : ℕ) → h ≡ (read s).height → Ground d w h mask
-    ground h e = record { width = sym ew; height = sym e; masked = r.masked }
-
-    margin : (h : ℕ) → h ≡ (read s).height → {x : List ℕ} → Margin (read s).width (read s).height x → Margin w h x
-    margin h e {x} m = rw (ew, e) m
+    goals_on : (gs goals : List ℕ) → GoalsAt d.width gs goals (length goals) → GoalsAt w gs goals (length goals)
+    goals_on gs goals g = rw sized.0 g
 
     -- one layer on
-    pub fore_next : Goals s j goals → (h : ℕ) → h ≡ (read s).height → (t on : ℕ) → on ≡ suc t → {src before after : List ℕ} → Holds d src (fore d i j cs t)
-        → Margin (read s).width (read s).height before → Stepped w h mask (carrier i.0) cs t on false goals n src before after → Holds d after (fore d i j cs (suc t))
+    pub fore_next : (goals : List ℕ) → GoalsOf s j goals → (t on : ℕ) → on ≡ suc t → {src before after : List ℕ} → Holds d src (fore d i j cs t)
+        → Margin d.width d.height before → Stepped w h mask i cs t on false goals (length goals) src before after → Holds d after (fore d i j cs (suc t))
     unfolding fore
-    fore_next g h eh t on e {src} {before} {after} hs m st =
+    fore_next goals g t on e {src} {before} {after} hs m st =
         holds_same (λ v. ap (λ (z : ℕ). next_layer d i cs t z false (goals_of d j) (fore d i j cs t) v) e)
-        (st.holds d (goals_of d j) (fore d i j cs t) (ground h eh) (forth_at g) (fore_labels t) hs (margin h eh m))
+        (st.holds d (goals_of d j) (fore d i j cs t) ground (goals_on (goals_of d j) goals g) (fore_labels t) hs (margin m))
 
     -- one layer back
-    pub hind_next : Turned s j goals → (h : ℕ) → h ≡ (read s).height → (k t : ℕ) → {src before after : List ℕ} → Holds d src (hind d i j cs k (suc t))
-        → Margin (read s).width (read s).height before → Stepped w h mask (carrier i.0) cs t t true goals n src before after → Holds d after (hind d i j cs (suc k) t)
+    pub hind_next : (goals : List ℕ) → Turned s j goals → (end t : ℕ) → t < end → {src before after : List ℕ} → Holds d src (hind d i j cs (end - (t + 1)) (t + 1))
+        → Margin d.width d.height before → Stepped w h mask i cs t t true goals (length goals) src before after → Holds d after (hind d i j cs (end - t) t)
     unfolding hind
-    hind_next g h eh k t hs m st =
-        holds_same (λ v. refl) (st.holds d (reverse (goals_of d j)) (hind d i j cs k (suc t)) (ground h eh) (back_at g) (hind_labels k (suc t)) hs (margin h eh m))
+    hind_next goals g end t l {src} {before} {after} hs m st =
+        let k : ℕ = end - (t + 1) in
+        let e : end - t ≡ suc k = omega arith in
+        let x : Holds d src (hind d i j cs k (suc t)) = subst (λ (z : ℕ). Holds d src (hind d i j cs k z)) (add-one t) hs in
+        rw e (holds_same (λ v. refl) (st.holds d (reverse (goals_of d j)) (hind d i j cs k (suc t)) ground (goals_on (reverse (goals_of d j)) goals g) (hind_labels k (suc t)) x (margin m)))
 
     -- the first layer of each pass
-    pub fore_first : Goals s j goals → (p : ℕ) → p ≡ pad_of w (start_of d i) → {layer : List ℕ} → Seeded w (carrier i.0) cs 0 goals n p layer → Holds d layer (fore d i j cs 0)
+    pub fore_first : (goals : List ℕ) → GoalsOf s j goals → (p : ℕ) → p ≡ pad_of w (start_of d i) → {layer : List ℕ} → Seeded w i cs 0 goals (length goals) p layer
+        → Holds d layer (fore d i j cs 0)
     unfolding fore
-    fore_first g p e sd = sd.holds d (goals_of d j) (start_of d i) (sym ew) (forth_at g) (start_on_grid s r.accepted i) e
+    fore_first goals g p e sd = sd.holds d (goals_of d j) (start_of d i) (sym sized.0) (goals_on (goals_of d j) goals g) (start_on_grid s r.accepted i) e
 
-    pub hind_first : Turned s j goals → (p end : ℕ) → p ≡ pad_of w (last_goal d j) → {layer : List ℕ} → Seeded w (carrier i.0) cs end goals n p layer
+    pub hind_first : (goals : List ℕ) → Turned s j goals → (p end : ℕ) → p ≡ pad_of w (last_goal d j) → {layer : List ℕ} → Seeded w i cs end goals (length goals) p layer
         → Holds d layer (hind d i j cs 0 end)
     unfolding hind
-    hind_first g p end e sd = sd.holds d (reverse (goals_of d j)) (last_goal d j) (sym ew) (back_at g) (last_goal_on_grid s r.accepted j) e
+    hind_first goals g p end e sd = sd.holds d (reverse (goals_of d j)) (last_goal d j) (sym sized.0) (goals_on (reverse (goals_of d j)) goals g) (last_goal_on_grid s r.accepted j) e
+
+    -- what the passes ask of their goals: at most eight, on the grid
+    module _ (gs goals : List ℕ) (g : GoalsAt d.width gs goals (length goals)) where
+      pub few_padded : length gs ≡ many → length goals ≤ 8
+      few_padded e = omega (arith, few_goals r, g.many)
+
+      pub padded_on : ((k : ℕ) → k < length goals → get_or gs k 0 < area d) → Indexes goals (length goals)
+      padded_on on = goals_index d.width gs goals (length goals) g (λ k l. pad_small r (get_or gs k 0) (on k l))
+
+    pub forth_on : (goals : List ℕ) → GoalsOf s j goals → (length goals ≤ 8) × Indexes goals (length goals)
+    forth_on goals g = (few_padded (goals_of d j) goals g refl, padded_on (goals_of d j) goals g (λ k l. goal_on_grid s r.accepted j k))
+
+    pub back_on : (goals : List ℕ) → Turned s j goals → (length goals ≤ 8) × Indexes goals (length goals)
+    back_on goals g = (
+      few_padded (reverse (goals_of d j)) goals g (length-reverse (goals_of d j)),
+      padded_on (reverse (goals_of d j)) goals g (λ k l.
+          let m : k < length (goals_of d j) = omega (arith, g.many, length-reverse (goals_of d j)) in
+          rw (reverse_at (goals_of d j) k m) (goal_on_grid s r.accepted j (many - 1 - k))),
+    )
+
+    -- a padded place of the grid is an index of a layer
+    pub place_small : {v p : ℕ} → v < area d → p ≡ pad_of w v → p < 1156
+    place_small {v} l e = rw (e, sized.0) (pad_small r v l)
 
   -- The search for the least time: none before t
   abbrev pub NotYet : ℕ → Type 0
@@ -164,25 +159,12 @@ module _ (s : List ℕ) (i : Carrier) (j : Task) (mask rs : List ℕ) (r : Ready
   pub time_none : (t : ℕ) → NotYet t → d.horizon < t → LeastTime d i j cs t
   time_none t never h = record { meets = λ l. absurd (omega arith); first = λ m k q. absurd (never m (omega arith) q) }
 
--- The forward pass, with what it reads off the sheet: the number of goals and the padded last goal
-pub record Sweep (s : List ℕ) (i : Carrier) (j : Task) (mask goals rs : List ℕ) (from n p : ℕ) : Type 0 where
-  pub ready : Ready s i j mask rs
-  pub padded : Goals s j goals
-  pub early : Early s i j rs from
-  pub many : n ≡ length (goals_of (read s) j)
-  pub at : p ≡ pad_of (read s).width (last_goal (read s) j)
-
--- where the forward pass is at t: the layer of t, another to write the next to, and no time before
+-- Where the forward pass is at t: the layer of t, another to write the next to, and no time before
 pub record Swept (s : List ℕ) (i : Carrier) (j : Task) (rs : List ℕ) (a b : List ℕ) (t : ℕ) : Type 0 where
   pub in_time : t ≤ (read s).horizon
   pub layer : Holds (read s) a (fore (read s) i j (constraints_of rs) t)
   pub spare : Margin (read s).width (read s).height b
   pub none_yet : (m : ℕ) → m < t → ¬ T (meets_at (read s) i j (constraints_of rs) m)
-
--- a padded place of the grid is an index of a layer
-pub place_small : {s : List ℕ} {i : Carrier} {j : Task} {mask rs : List ℕ} → Ready s i j mask rs → {w v p u : ℕ} → w ≡ (read s).width → v ≡ u → u < area (read s)
-    → p ≡ pad_of w v → p < 1156
-place_small {s} r {w} {v} {p} {u} e f h g = rw (g, e, f) (pad_small r u h)
 
 pub zeros_margin : (w h : ℕ) → Margin w h (replicate 1156 0)
 zeros_margin w h = record { size = length-replicate {A = ℕ} 1156 0; over = λ p l. zeros p; under = λ p l. zeros p }
@@ -191,36 +173,67 @@ zeros_margin w h = record { size = length-replicate {A = ℕ} 1156 0; over = λ 
     zeros q = ⊎_elim (λ h. get_or-replicate {A = ℕ} 1156 q 0 0 h)
         (λ h. get_or-eq_default (replicate {A = ℕ} 1156 0) 0 {n = q} (omega (arith, length-replicate {A = ℕ} 1156 0))) (lt_or_ge q 1156)
 
-module _ (s : List ℕ) (i : Carrier) (j : Task) (mask goals rs : List ℕ) (from n p : ℕ) (q : Sweep s i j mask goals rs from n p) where
-  -- the task can be finished at t, the first such time
-  pub found_at : {a b : List ℕ} {t : ℕ} {m : Bool} → Swept s i j rs a b t → m ≡ (leb from t && ltb n (get_or a p 0)) → m ≡ true
-      → LeastTime (read s) i j (constraints_of rs) t
-  found_at {t} v e f = time_here s i j mask rs q.ready from q.early t n p v.in_time q.many q.at v.layer e v.none_yet f
+some_is : {x y : ℕ} → Some x ≡ Some y → x ≡ y
+some_is {x} e = ap (λ (o : Option ℕ). unwrap_or o x) e
 
-  -- it cannot, and there is no time left
-  pub none_left : {a b : List ℕ} {t u : ℕ} {m : Bool} → Swept s i j rs a b t → m ≡ (leb from t && ltb n (get_or a p 0)) → m ≡ false → t ≡ (read s).horizon
-      → u ≡ t + 1 → LeastTime (read s) i j (constraints_of rs) u
-  none_left {t} {u} v e f g x =
-      rw x (time_none s i j mask rs q.ready (t + 1) (not_here s i j mask rs q.ready from q.early t n p v.in_time q.many q.at v.layer e v.none_yet f) (omega arith))
+-- the end of the pass at t, from the test of its layer
+abbrev pub end_at : Bool → ℕ → ℕ → Option ℕ
+end_at m t horizon = cond m (Some t) (cond (eqb t horizon) (Some (t + 1)) None)
 
-  -- it cannot, and the next layer is made
-  pub swept_on : {w h t on : ℕ} {m : Bool} {a b c : List ℕ} → w ≡ (read s).width → h ≡ (read s).height → Swept s i j rs a b t → m ≡ (leb from t && ltb n (get_or a p 0))
-      → m ≡ false → (t ≡ (read s).horizon → ⊥) → on ≡ t + 1 → Stepped w h mask (carrier i.0) (constraints_of rs) t on false goals n a b c → Swept s i j rs c a on
-  swept_on {w} {h} {t} {on} ew eh v e f g o st = record {
-    in_time = omega (arith, v.in_time);
-    layer = let x : on ≡ suc t = omega arith in rw x (fore_next s i j mask rs q.ready w n ew q.many goals q.padded h eh t on x v.layer v.spare st);
-    spare = holds_margin (read s) _ (fore (read s) i j (constraints_of rs) t) v.layer;
-    none_yet = rw o (not_here s i j mask rs q.ready from q.early t n p v.in_time q.many q.at v.layer e v.none_yet f);
-  }
+pub end_some : (m : Bool) (t h e : ℕ) → end_at m t h ≡ Some e → ((m ≡ true) × (e ≡ t)) ⊎ ((m ≡ false) × (t ≡ h) × (e ≡ t + 1))
+end_some true t h e q = inl (refl, sym (some_is q))
+end_some false t h e q = go (eqb t h) refl q
+  where
+    go : (b : Bool) → eqb t h ≡ b → cond b (Some (t + 1)) None ≡ Some e → ((false ≡ true) × (e ≡ t)) ⊎ ((false ≡ false) × (t ≡ h) × (e ≡ t + 1))
+    go true f q = inr (refl, eqb-true t h f, sym (some_is q))
+    go false f q = absurd (none-some _ q)
 
--- one layer back, in the numbers of the code
-pub back_holds : (s : List ℕ) (i : Carrier) (j : Task) (mask rs : List ℕ) → Ready s i j mask rs → (w n : ℕ) → w ≡ (read s).width → n ≡ length (goals_of (read s) j)
-    → (goals : List ℕ) → Turned s j goals → (h : ℕ) → h ≡ (read s).height → (end t : ℕ) → t < end → {src before after : List ℕ}
-    → Holds (read s) src (hind (read s) i j (constraints_of rs) (end - (t + 1)) (t + 1)) → Margin (read s).width (read s).height before
-    → Stepped w h mask (carrier i.0) (constraints_of rs) t t true goals n src before after
-    → Holds (read s) after (hind (read s) i j (constraints_of rs) (end - t) t)
-back_holds s i j mask rs r w n ew en goals g h eh end t l {src} {before} {after} hs m st =
-    let e : end - t ≡ suc (end - (t + 1)) = omega arith in
-    rw e
-    (hind_next s i j mask rs r w n ew en goals g h eh (end - (t + 1)) t
-    (subst (λ (z : ℕ). Holds (read s) src (hind (read s) i j (constraints_of rs) (end - (t + 1)) z)) (add-one t) hs) m st)
+pub end_none : (m : Bool) (t h : ℕ) → end_at m t h ≡ None → (m ≡ false) × (t ≡ h → ⊥)
+end_none true t h q = absurd (none-some _ (sym q))
+end_none false t h q = (refl, go (eqb t h) refl q)
+  where
+    go : (b : Bool) → eqb t h ≡ b → cond b (Some (t + 1)) None ≡ None → t ≡ h → ⊥
+    go true f q e = none-some _ (sym q)
+    go false f q e = eqb-false t h f e
+
+-- One turn of the pass: from is early, n the number of goals and p the padded last goal
+module _ (s : List ℕ) (i : Carrier) (j : Task) (mask rs : List ℕ) (r : Ready s i j mask rs) (w h : ℕ) (sized : Sized s w h) (goals : List ℕ) (g : GoalsOf s j goals)
+    (from : ℕ) (f : Early s i j rs from) (p horizon : ℕ) (at : p ≡ pad_of w (last_goal (read s) j)) (eh : horizon ≡ (read s).horizon) where
+  abbrev test : ℕ → List ℕ → Bool
+  test t a = leb from t && ltb (length goals) (get_or a p 0)
+
+  here : p ≡ pad_of (read s).width (last_goal (read s) j)
+  here = at ∙ ap (λ (z : ℕ). pad_of z (last_goal (read s) j)) sized.0
+
+  -- the task can be finished at t, the first such time, or it cannot, and there is no time left
+  pub ends_at : {a b : List ℕ} {t e : ℕ} {o : Option ℕ} → Swept s i j rs a b t → o ≡ end_at (test t a) t horizon → o ≡ Some e → LeastTime (read s) i j (constraints_of rs) e
+  ends_at {a} {t} {e} v x y = ⊎_elim
+      (λ q. rw q.1 (time_here s i j mask rs r from f t (length goals) p v.in_time (sym g.many) here v.layer refl v.none_yet q.0))
+      (λ q. rw q.2 (time_none s i j mask rs r (t + 1) (not_here s i j mask rs r from f t (length goals) p v.in_time (sym g.many) here v.layer refl v.none_yet q.0) (omega (arith, q.1))))
+      (end_some (test t a) t horizon e (sym x ∙ y))
+
+  -- neither, and the next layer is made
+  pub swept_on : {a b c : List ℕ} {t on : ℕ} {o : Option ℕ} → Swept s i j rs a b t → o ≡ end_at (test t a) t horizon → o ≡ None → on ≡ t + 1
+      → Stepped w h mask i (constraints_of rs) t on false goals (length goals) a b c → Swept s i j rs c a on
+  swept_on {a} {b} {c} {t} {on} v x y e st =
+      let q = end_none (test t a) t horizon (sym x ∙ y) in
+      let below : (t ≡ (read s).horizon → ⊥) = λ z. q.1 (z ∙ sym eh) in
+      record {
+        in_time = omega (arith, v.in_time);
+        layer = let z : on ≡ suc t = omega arith in rw z (fore_next s i j mask rs r w h sized goals g t on z v.layer v.spare st);
+        spare = holds_margin (read s) _ (fore (read s) i j (constraints_of rs) t) v.layer;
+        none_yet = rw e (not_here s i j mask rs r from f t (length goals) p v.in_time (sym g.many) here v.layer refl v.none_yet q.0);
+      }
+
+  pub sweep_below : (a : List ℕ) {t : ℕ} {o : Option ℕ} → t ≤ (read s).horizon → o ≡ end_at (test t a) t horizon → o ≡ None → t < (read s).horizon
+  sweep_below a {t} l x y = let q = end_none (test t a) t horizon (sym x ∙ y) in let below : (t ≡ (read s).horizon → ⊥) = λ z. q.1 (z ∙ sym eh) in omega arith
+
+-- the pass begins
+pub swept_first : (s : List ℕ) (i : Carrier) (j : Task) (mask rs : List ℕ) → Ready s i j mask rs → (w h : ℕ) → Sized s w h → (goals : List ℕ) → GoalsOf s j goals → {start : ℕ} {layer : List ℕ}
+    → start ≡ pad_of w (start_of (read s) i) → Seeded w i (constraints_of rs) 0 goals (length goals) start layer → Swept s i j rs layer (replicate 1156 0) 0
+swept_first s i j mask rs r w h sized goals g {start} e sd = record {
+  in_time = omega arith;
+  layer = fore_first s i j mask rs r w h sized goals g start e sd;
+  spare = zeros_margin (read s).width (read s).height;
+  none_yet = λ m l. absurd (omega arith);
+}

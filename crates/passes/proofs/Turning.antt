@@ -1,12 +1,12 @@
 -- Lists of padded goals filled from the front, and turned round. Assumes nothing.
-use Prim.Native.Nat.{ℕ, suc, ◌+◌, ◌-◌, ◌<◌}
+use Prim.Native.Nat.{ℕ, suc, ◌+◌, ◌-◌, ◌≤◌, ◌<◌}
 use mathlib.Core.Path.{◌≡◌, sym, ap, ◌∙◌, subst}
 use mathlib.Core.Logic.{⊎_elim}
 use mathlib.Core.List.{List, [], ◌∷◌, ◌++◌, reverse, reverse-cons}
 use native.Mathlib.Nat.{eq-or-lt_of_le}
 use native.Mathlib.Omega.{arith}
-use lib.ListN.{length, get_or, set, length-reverse, get_or-append}
-use lib.Seq.{get_or-set_same, get_or-set_other, get_or-append-add}
+use lib.ListN.{length, get_or, set, take, length-reverse, get_or-append}
+use lib.Seq.{get_or-set_same, get_or-set_other, get_or-append-add, get_or-take, length-take-le}
 use Rattle.bars.specs.Padded.{pad_of}
 use Rattle.layers.specs.Raise.{GoalsAt, Indexes}
 
@@ -32,14 +32,20 @@ reverse_at (x ∷ l) k h = ⊎_elim
     (eq-or-lt_of_le h)
 
 -- goals turned round are the goals of the list turned round
-pub turned_goals : (w : ℕ) (gs goals turned : List ℕ) (n : ℕ) → GoalsAt w gs goals n → ((k : ℕ) → k < n → get_or turned k 0 ≡ get_or goals (n - 1 - k) 0)
-    → GoalsAt w (reverse gs) turned n
-turned_goals w gs goals turned n g h = record {
-  many = length-reverse gs ∙ g.many;
+pub turned_goals : (w : ℕ) (gs goals turned : List ℕ) → GoalsAt w gs goals (length goals) → turned ≡ reverse goals → GoalsAt w (reverse gs) turned (length turned)
+turned_goals w gs goals turned g e = rw e (record {
+  many = length-reverse gs ∙ g.many ∙ sym (length-reverse goals);
   at = λ k l.
-      let e : length gs - 1 - k ≡ n - 1 - k = omega (arith, g.many) in
-      h k l ∙ g.at (n - 1 - k) (omega arith) ∙ ap (pad_of w) (sym (reverse_at gs k (omega (arith, g.many)) ∙ ap (λ (z : ℕ). get_or gs z 0) e));
-}
+      let m : k < length goals = omega (arith, length-reverse goals) in
+      let q : length gs - 1 - k ≡ length goals - 1 - k = omega (arith, g.many) in
+      reverse_at goals k m ∙ g.at (length goals - 1 - k) (omega arith) ∙ ap (pad_of w) (sym (reverse_at gs k (omega (arith, g.many)) ∙ ap (λ (z : ℕ). get_or gs z 0) q));
+})
+
+-- the goals that are filled in, as a list of their own
+pub listed_goals : (w : ℕ) (gs places : List ℕ) (n : ℕ) → n ≡ length gs → n ≤ length places → Each (λ m. pad_of w (get_or gs m 0)) places n → GoalsAt w gs (take n places) (length (take n places))
+listed_goals w gs places n e l each =
+    let long : length (take n places) ≡ n = length-take-le n places l in
+    rw long (record { many = sym e; at = λ k h. get_or-take n places k 0 h ∙ each k h })
 
 -- goals on the grid are indexes of a layer
 pub goals_index : (w : ℕ) (gs goals : List ℕ) (n : ℕ) → GoalsAt w gs goals n → ((k : ℕ) → k < n → pad_of w (get_or gs k 0) < 1156) → Indexes goals n

@@ -8,7 +8,7 @@ use Rattle.deck.specs.declared.Task.{Task}
 use Rattle.kernel.specs.Parts.{rest_from}
 use Rattle.kernel.specs.Kernel.{hind, meets_at}
 use Rattle.bars.specs.Padded.{MaskOf}
-use Rattle.bars.specs.Bars.{count_in, Chained}
+use Rattle.bars.specs.Bars.{count_in}
 use Rattle.layers.specs.Raise.{GoalsAt}
 use Rattle.layers.specs.Packed.{words_for, Laid}
 
@@ -20,12 +20,16 @@ pub record Ready (s : List ℕ) (i : Carrier) (j : Task) (mask rs : List ℕ) : 
   pub masked : MaskOf (read s) mask
   pub records : T (good_records (read s) rs)
 
+-- the size is that of the sheet's grid
+abbrev pub Sized : List ℕ → ℕ → ℕ → Type 0
+Sized s w h = (w ≡ (read s).width) × (h ≡ (read s).height)
+
 -- the task's goals on the padded grid, and the same in reverse
-abbrev pub Goals : List ℕ → Task → List ℕ → Type 0
-Goals s j goals = GoalsAt (read s).width (goals_of (read s) j) goals (length (goals_of (read s) j))
+abbrev pub GoalsOf : List ℕ → Task → List ℕ → Type 0
+GoalsOf s j goals = GoalsAt (read s).width (goals_of (read s) j) goals (length goals)
 
 abbrev pub Turned : List ℕ → Task → List ℕ → Type 0
-Turned s j goals = GoalsAt (read s).width (reverse (goals_of (read s) j)) goals (length (goals_of (read s) j))
+Turned s j goals = GoalsAt (read s).width (reverse (goals_of (read s) j)) goals (length goals)
 
 -- a time from which the carrier may stay on its last goal, and before which it cannot finish
 pub record Early (s : List ℕ) (i : Carrier) (j : Task) (rs : List ℕ) (from : ℕ) : Type 0 where
@@ -36,12 +40,11 @@ pub record Early (s : List ℕ) (i : Carrier) (j : Task) (rs : List ℕ) (from :
 abbrev pub room_for : List ℕ → List ℕ → ℕ
 room_for s rs = count_in rs + suc (read s).horizon * area (read s)
 
--- where the layer of a time begins
-abbrev pub layer_at : List ℕ → List ℕ → ℕ → ℕ
-layer_at s rs t = count_in rs + t * words_for (read s).width (read s).height
+-- where the layer of a time begins, in the words past the links
+abbrev pub layer_at : List ℕ → ℕ → ℕ
+layer_at s t = t * words_for (read s).width (read s).height
 
--- the links and the layers from time t up to `end`, of the backward pass from `end`, stand in the workspace
-pub record Backed (s : List ℕ) (i : Carrier) (j : Task) (rs heads : List ℕ) (end t : ℕ) (work : List ℕ) : Type 0 where
-  pub chained : Chained rs i.0 heads work
-  pub room : room_for s rs ≤ length work
-  pub layers : (u : ℕ) → t ≤ u → u ≤ end → Laid (read s) work (layer_at s rs u) (hind (read s) i j (constraints_of rs) (end - u) u)
+-- the layers from time t up to `end`, of the backward pass from `end`, stand in these words
+pub record Backed (s : List ℕ) (i : Carrier) (j : Task) (rs : List ℕ) (end t : ℕ) (words : List ℕ) : Type 0 where
+  pub room : suc (read s).horizon * area (read s) ≤ length words
+  pub layers : (u : ℕ) → t ≤ u → u ≤ end → Laid (read s) words (layer_at s u) (hind (read s) i j (constraints_of rs) (end - u) u)

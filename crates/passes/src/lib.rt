@@ -2,302 +2,176 @@
 // be finished in time from each place, with the layers kept in the workspace.
 #![tactic(auto)]
 
-ghost use Rattle.std.specs.Prelude.{◌≡◌, true, false, ◌&&◌, reverse, ℕ, ◌+◌, ◌-◌, ◌*◌, ◌<◌, ◌≤◌, length, get_or, leb, ltb, None};
-ghost use Rattle.deck.specs.Sheet.{read, start_of, goals_of, cause};
+ghost use Rattle.std.specs.Prelude.{◌≡◌, ◌&&◌, cond, Option, None, Some, ◌+◌, ◌*◌, ◌<◌, ◌≤◌, length, get_or, leb, ltb, eqb, true, false};
 ghost use Rattle.deck.specs.Calls.{constraints_of};
-ghost use Rattle.kernel.specs.Labels.{all_goals};
-ghost use Rattle.kernel.specs.Kernel.{hind, LeastTime};
-ghost use Rattle.bars.specs.Padded.{Holds};
-ghost use Rattle.bars.specs.Bars.{Chained};
-ghost use Rattle.layers.specs.Step.{Doors, Margin};
-ghost use Rattle.passes.specs.Ready.{Ready, Goals, Turned, Early, room_for, Backed};
+ghost use Rattle.bars.specs.Padded.{row_of};
+ghost use Rattle.bars.specs.Ways.{is_back};
+ghost use Rattle.layers.specs.Packed.{Kept, words_for};
+ghost use Rattle.layers.specs.Step.{Stepped};
+ghost use Rattle.passes.specs.Ready.{Ready, Sized, GoalsOf};
+ghost use Rattle.passes.specs.Listed.{listed};
 
-use deck::{Carrier, Task};
+use bars::{CELLS, Chains, Direction, Layer, Ways};
+use deck::Task;
+use layers::Pass;
+use sheet::AcceptedSheet;
 
-fn wide8(x: u8) -> usize
-    ensures { (result ≡ x) × (result < 256) }
-{
-    x as usize
+mod task_goals;
+
+pub use task_goals::Goals;
+
+// What a carrier's path is sought by: an accepted sheet and its mask, the task and its goals, and the carrier's constraints.
+#[derive(Drop)]
+pub struct Course<'a> {
+    pub sheet: &'a AcceptedSheet<'a>,
+    pub mask: &'a Layer,
+    pub task: Task,
+    pub goals: Goals,
+    pub chains: &'a Chains<'a>,
+    pub ghost ready: { Ready sheet.now.bytes.now chains.now.carrier task mask.now chains.now.records.now },
+    pub ghost sized: { Sized sheet.now.bytes.now chains.now.size.width chains.now.size.height },
+    pub ghost goals_at: { GoalsOf sheet.now.bytes.now task (listed goals) },
 }
 
-// The task's goals on the padded grid.
-pub fn goals_of(s: &[u8], j: Task) -> [usize; 8]
-    requires { cause s.now ≡ None }
-    ensures { Goals s.now j result }
-{
-    let w = sheet::width(s);
-    let n = sheet::goal_count(s, j);
-    let mut goals = [0usize; 8];
-    for k in 0..n {
-        goals[k] = bars::pad(w, sheet::goal(s, j, k));
-    }
-    goals
-}
-
-// The first n goals in reverse.
-pub fn reversed(goals: &[usize; 8], n: usize) -> [usize; 8]
-    requires { n ≤ 8 }
-    ensures { (k : ℕ) → k < n → get_or result k 0 ≡ get_or goals.now (n - 1 - k) 0 }
-{
-    let mut turned = [0usize; 8];
-    for k in 0..n {
-        turned[k] = goals[n - 1 - k];
-    }
-    turned
-}
-
-// From `from` on, with all n goals visited on the padded place p.
-fn met(layer: &[u8; 1156], p: usize, n: usize, t: usize, from: usize) -> bool
-    requires { p < 1156 }
-    ensures { result ≡ (leb from t && ltb n (get_or layer.now p 0)) }
-{
-    if from <= t {
-        n < wide8(layer[p])
-    } else {
-        false
-    }
-}
-
-// The forward pass over the ways with these doors.
-fn forward_by(
-    s: &[u8],
-    i: Carrier,
-    j: Task,
-    mask: &[u8; 1156],
-    doors: &[u8],
-    goals: &[usize; 8],
-    records: &[u16],
-    heads: &[u16; 256],
-    links: &[u32],
+// What ends a forward pass: a label above the number of goals on the padded last goal, not before the time `from`; or the horizon.
+#[derive(Clone, Copy)]
+struct Target {
+    place: usize,
+    goals: usize,
     from: usize,
-) -> usize
-    requires { Ready s.now i j mask.now records.now × Chained records.now i.0 heads.now links.now × Goals s.now j goals.now × Early s.now i j records.now from × Doors mask.now (read s.now).width (read s.now).height false doors.now }
-    ensures { LeastTime (read s.now) i j (constraints_of records.now) result }
-{
-    let w = sheet::width(s);
-    let h = sheet::height(s);
-    let horizon = sheet::horizon(s);
-    let n = sheet::goal_count(s, j);
-    let goal = bars::pad(w, sheet::last_goal(s, j));
-    let start = bars::pad(w, sheet::start(s, i));
-    let mut a = layers::seed(records, i, heads, links, 0, w, goals, n, start);
-    let mut b = [0u8; 1156];
-    let mut t = 0;
-    loop {
-        if met(&a, goal, n, t, from) {
-            return t;
+    horizon: usize,
+}
+
+impl Target {
+    // The end, at the layer of t: t itself, or the next time where the horizon is passed.
+    fn end(self, layer: &Layer, t: usize) -> Option<usize>
+        requires { (self.place < 1156) × (t < 256) }
+        ensures { result ≡ cond (leb self.from t && ltb self.goals (get_or layer.now self.place 0)) (Some t) (cond (eqb t self.horizon) (Some (t + 1)) None) }
+    {
+        if self.from <= t && self.goals < usize::from(layer[self.place]) {
+            Some(t)
+        } else if t == self.horizon {
+            Some(t + 1)
+        } else {
+            None
         }
-        if t == horizon {
-            return t + 1;
-        }
-        layers::step(
-            mask,
-            doors,
-            w,
-            h,
-            records,
-            i,
-            heads,
-            links,
-            t,
-            t + 1,
-            false,
-            goals,
-            n,
-            &a,
-            &mut b,
-        );
-        if met(&b, goal, n, t + 1, from) {
-            return t + 1;
-        }
-        if t + 1 == horizon {
-            return t + 2;
-        }
-        layers::step(
-            mask,
-            doors,
-            w,
-            h,
-            records,
-            i,
-            heads,
-            links,
-            t + 1,
-            t + 2,
-            false,
-            goals,
-            n,
-            &b,
-            &mut a,
-        );
-        t = t + 2;
     }
 }
 
-// The least time at which the task can be finished, or one above the horizon.
-pub fn forward(
-    s: &[u8],
-    i: Carrier,
-    j: Task,
-    mask: &[u8; 1156],
-    goals: &[usize; 8],
-    records: &[u16],
-    heads: &[u16; 256],
-    links: &[u32],
-    from: usize,
-) -> usize
-    requires { Ready s.now i j mask.now records.now × Chained records.now i.0 heads.now links.now × Goals s.now j goals.now × Early s.now i j records.now from }
-    ensures { LeastTime (read s.now) i j (constraints_of records.now) result }
+// One layer of a backward pass: the layer of time t, from that of t + 1, kept in the workspace.
+fn back_step(pass: &Pass, t: usize, src: &Layer, dst: &mut Layer, words: &mut [u32])
+    requires { (t < 256) × (length dst.old ≡ 1156) × (t * words_for pass.now.chains.now.size.width pass.now.chains.now.size.height + words_for pass.now.chains.now.size.width pass.now.chains.now.size.height ≤ length words.old) }
+    ensures stepped { Stepped pass.now.chains.now.size.width pass.now.chains.now.size.height pass.now.mask.now pass.now.chains.now.carrier (constraints_of pass.now.chains.now.records.now) t t (is_back pass.now.direction) pass.now.goals.now (length pass.now.goals.now) src.now dst.old dst.new }
+    ensures kept { Kept dst.new (row_of pass.now.chains.now.size.width) (t * words_for pass.now.chains.now.size.width pass.now.chains.now.size.height) (words_for pass.now.chains.now.size.width pass.now.chains.now.size.height) words.old words.new }
 {
-    let wide = sheet::width(s) + 2;
-    let end = wide * (sheet::height(s) + 1);
-    if layers::plain(mask, wide, end) {
-        let none = [0u8; 1];
-        return forward_by(
-            s,
-            i,
-            j,
-            mask,
-            &none[..0],
+    pass.step(t, t, src, dst);
+    layers::keep(dst, pass.chains.size, words, t);
+}
+
+impl<'a> Course<'a> {
+    ghost use Rattle.passes.specs.Courses.{sheet_of, EarlyOn, LeastOn, can_finish, Roomy, BackedOn, DoorsOn};
+
+    // The forward pass over the ways with these doors.
+    fn forward_by(&self, doors: Option<&Ways>, from: usize) -> usize
+        requires early { EarlyOn self.now from }
+        requires passable { DoorsOn self.now false doors }
+        ensures { LeastOn self.now result }
+    {
+        let size = self.chains.size;
+        let goals = self.goals.all();
+        let pass = Pass {
+            chains: self.chains,
+            mask: self.mask,
+            doors,
+            direction: Direction::Forward,
             goals,
-            records,
-            heads,
-            links,
+        };
+        let target = Target {
+            place: size.pad(self.sheet.last_goal(self.task)),
+            goals: goals.len(),
             from,
-        );
+            horizon: self.sheet.horizon(),
+        };
+        let mut a = pass.seed(0, size.pad(self.sheet.start(self.chains.carrier)));
+        let mut b = [0u8; CELLS];
+        let mut t = 0;
+        loop {
+            if let Some(end) = target.end(&a, t) {
+                return end;
+            }
+            pass.step(t, t + 1, &a, &mut b);
+            if let Some(end) = target.end(&b, t + 1) {
+                return end;
+            }
+            pass.step(t + 1, t + 2, &b, &mut a);
+            t = t + 2;
+        }
     }
-    let mut doors = [0u8; 6936];
-    layers::fill_doors(mask, wide, end, false, &mut doors);
-    forward_by(s, i, j, mask, &doors, goals, records, heads, links, from)
-}
 
-// One layer of the backward pass from `end`: the layer of time t, from that of t + 1, kept in the workspace. The sheet's width and height
-// and the number of goals are handed in, so that they are not read for every layer.
-fn back_step(
-    s: &[u8],
-    i: Carrier,
-    j: Task,
-    mask: &[u8; 1156],
-    doors: &[u8],
-    goals: &[usize; 8],
-    records: &[u16],
-    heads: &[u16; 256],
-    w: usize,
-    h: usize,
-    n: usize,
-    end: usize,
-    t: usize,
-    src: &[u8; 1156],
-    dst: &mut [u8; 1156],
-    work: &mut [u32],
-)
-    requires { Ready s.now i j mask.now records.now × Turned s.now j goals.now × (t < end) × (end ≤ (read s.now).horizon) × Holds (read s.now) src.now (hind (read s.now) i j (constraints_of records.now) (end - (t + 1)) (t + 1)) × Margin (read s.now).width (read s.now).height dst.old × Backed s.now i j records.now heads.now end (t + 1) work.old × Doors mask.now (read s.now).width (read s.now).height true doors.now × (w ≡ (read s.now).width) × (h ≡ (read s.now).height) × (n ≡ length (goals_of (read s.now) j)) }
-    ensures { Holds (read s.now) dst.new (hind (read s.now) i j (constraints_of records.now) (end - t) t) × Backed s.now i j records.now heads.now end t work.new }
-{
-    layers::step(
-        mask, doors, w, h, records, i, heads, work, t, t, true, goals, n, src, dst,
-    );
-    let words = ((w + 2) * h + 3) / 4;
-    layers::keep(dst, w + 2, words, work, records.len() / 5 + t * words);
-}
+    // The least time at which the task can be finished, or one above the horizon; it is not before `from`.
+    pub fn forward(&self, from: usize) -> usize
+        requires { EarlyOn self.now from }
+        ensures { LeastOn self.now result }
+    {
+        let size = self.chains.size;
+        if layers::is_plain(self.mask, size) {
+            return self.forward_by(None, from);
+        }
+        let mut doors = [0u8; 5780];
+        layers::fill_doors(self.mask, size, Direction::Forward, &mut doors);
+        self.forward_by(Some(&doors), from)
+    }
 
-// The backward pass over the ways with these doors.
-fn backward_by(
-    s: &[u8],
-    i: Carrier,
-    j: Task,
-    mask: &[u8; 1156],
-    doors: &[u8],
-    goals: &[usize; 8],
-    records: &[u16],
-    heads: &[u16; 256],
-    end: usize,
-    work: &mut [u32],
-) -> bool
-    requires { Ready s.now i j mask.now records.now × Turned s.now j goals.now × (end ≤ (read s.now).horizon) × Chained records.now i.0 heads.now work.old × (room_for s.now records.now ≤ length work.old) × Doors mask.now (read s.now).width (read s.now).height true doors.now }
-    ensures { (result ≡ ltb (all_goals (read s.now) j) (hind (read s.now) i j (constraints_of records.now) end 0 (start_of (read s.now) i))) × Backed s.now i j records.now heads.now end 0 work.new }
-{
-    let w = sheet::width(s);
-    let h = sheet::height(s);
-    let n = sheet::goal_count(s, j);
-    let goal = bars::pad(w, sheet::last_goal(s, j));
-    let start = bars::pad(w, sheet::start(s, i));
-    let mut a = layers::seed(records, i, heads, work, end, w, goals, n, goal);
-    let words = ((w + 2) * h + 3) / 4;
-    layers::keep(&a, w + 2, words, work, records.len() / 5 + end * words);
-    let mut b = [0u8; 1156];
-    let mut t = end;
-    while 1 < t {
-        back_step(
-            s,
-            i,
-            j,
-            mask,
+    // The backward pass over the ways with these doors.
+    fn backward_by(&self, doors: Option<&Ways>, end: usize, words: &mut [u32]) -> bool
+        requires in_time { end ≤ (sheet_of self.now).horizon }
+        requires room { Roomy self.now words.old }
+        requires passable { DoorsOn self.now true doors }
+        ensures finished { result ≡ can_finish self.now end }
+        ensures backed { BackedOn self.now end 0 words.new }
+    {
+        let size = self.chains.size;
+        let turned = self.goals.turned();
+        let goals = turned.all();
+        let pass = Pass {
+            chains: self.chains,
+            mask: self.mask,
             doors,
+            direction: Direction::Backward,
             goals,
-            records,
-            heads,
-            w,
-            h,
-            n,
-            end,
-            t - 1,
-            &a,
-            &mut b,
-            work,
-        );
-        back_step(
-            s,
-            i,
-            j,
-            mask,
-            doors,
-            goals,
-            records,
-            heads,
-            w,
-            h,
-            n,
-            end,
-            t - 2,
-            &b,
-            &mut a,
-            work,
-        );
-        t = t - 2;
+        };
+        let n = goals.len();
+        let start = size.pad(self.sheet.start(self.chains.carrier));
+        let mut a = pass.seed(end, size.pad(self.sheet.last_goal(self.task)));
+        layers::keep(&a, size, words, end);
+        let mut b = [0u8; CELLS];
+        let mut t = end;
+        while 1 < t {
+            back_step(&pass, t - 1, &a, &mut b, words);
+            back_step(&pass, t - 2, &b, &mut a, words);
+            t = t - 2;
+        }
+        if t == 1 {
+            back_step(&pass, 0, &a, &mut b, words);
+            return n < usize::from(b[start]);
+        }
+        n < usize::from(a[start])
     }
-    if t == 1 {
-        back_step(
-            s, i, j, mask, doors, goals, records, heads, w, h, n, end, 0, &a, &mut b, work,
-        );
-        return n < wide8(b[start]);
-    }
-    n < wide8(a[start])
-}
 
-// The backward pass from `end`: the layers of all times up to it are kept, and the answer is whether the task can be finished
-// then.
-pub fn backward(
-    s: &[u8],
-    i: Carrier,
-    j: Task,
-    mask: &[u8; 1156],
-    goals: &[usize; 8],
-    records: &[u16],
-    heads: &[u16; 256],
-    end: usize,
-    work: &mut [u32],
-) -> bool
-    requires { Ready s.now i j mask.now records.now × Turned s.now j goals.now × (end ≤ (read s.now).horizon) × Chained records.now i.0 heads.now work.old × (room_for s.now records.now ≤ length work.old) }
-    ensures { (result ≡ ltb (all_goals (read s.now) j) (hind (read s.now) i j (constraints_of records.now) end 0 (start_of (read s.now) i))) × Backed s.now i j records.now heads.now end 0 work.new }
-{
-    let wide = sheet::width(s) + 2;
-    let rows = wide * (sheet::height(s) + 1);
-    if layers::plain(mask, wide, rows) {
-        let none = [0u8; 1];
-        return backward_by(s, i, j, mask, &none[..0], goals, records, heads, end, work);
+    // The backward pass from `end`: the layers of all times up to it are kept, and the answer is whether the task can be finished
+    // then.
+    pub fn backward(&self, end: usize, words: &mut [u32]) -> bool
+        requires in_time { end ≤ (sheet_of self.now).horizon }
+        requires room { Roomy self.now words.old }
+        ensures finished { result ≡ can_finish self.now end }
+        ensures backed { BackedOn self.now end 0 words.new }
+    {
+        let size = self.chains.size;
+        if layers::is_plain(self.mask, size) {
+            return self.backward_by(None, end, words);
+        }
+        let mut doors = [0u8; 5780];
+        layers::fill_doors(self.mask, size, Direction::Backward, &mut doors);
+        self.backward_by(Some(&doors), end, words)
     }
-    let mut doors = [0u8; 6936];
-    layers::fill_doors(mask, wide, rows, true, &mut doors);
-    backward_by(s, i, j, mask, &doors, goals, records, heads, end, work)
 }

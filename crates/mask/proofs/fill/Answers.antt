@@ -1,27 +1,35 @@
 -- `mask::fill` meets its contract: the rows passed are masked. Assumes nothing.
-use native.Mathlib.Omega.{arith}
-use mathlib.Core.Path.{refl, sym, subst}
-use Prim.Native.Nat.{ℕ, ◌*◌}
+use Rattle.std.proofs.Common.{ℕ, sym, subst, arith}
+use native.Mathlib.Nat.{zero-mul}
 use Rattle.deck.specs.Sheet.{read}
 use Rattle.mask.specs.Mask.{Masked}
-use Rattle.mask.proofs.Masking.{mask_none, grid_asks, code_asks, code_plain, code_more, mask_all}
-use native.Mathlib.Nat.{zero-mul}
+use Rattle.mask.proofs.Masking.{mask_none, code_end, code_asks, code_more, mask_all}
 use Rattle.mask.proofs.fill.Goals as goal
-
-pub greatest-plain-requires : goal.greatest-plain-requires
-greatest-plain-requires c = (grid_asks c.args.s.now c.requires.0 c.width-w.ensures.value c.height-h.ensures.value c.grid_offset-grid.ensures.value).1
 
 pub loop-y-init : goal.loop-y-init
 loop-y-init c =
-    let a = c in
-    let zeros : Masked (read a.args.s.now) 0 a.args.mask.now = rw a.requires.1 (mask_none a.args.s.now a.requires.0) in
-    (omega arith, subst (λ (k : ℕ). Masked (read a.args.s.now) k a.args.mask.now) (sym (zero-mul c.width-w.result)) zeros)
+    let s = c.args.sheet.now in (
+      omega arith,
+      subst (λ (k : ℕ). Masked (read s.bytes.now) k c.args.mask.now) (sym (zero-mul (read s.bytes.now).width)) (rw c.requires (mask_none s.bytes.now s.accepted)),
+    )
+
+pub slice_bounds-row-end : goal.slice_bounds-row-end
+slice_bounds-row-end c =
+    let s = c.args.sheet.now in
+    omega (arith, code_end s.bytes.now s.accepted c.width-w.ensures.value c.grid_of-grid.ensures c.loop-y.y (omega (arith, c.height-y-end.ensures.value)))
 
 pub mask_row-requires : goal.mask_row-requires
-mask_row-requires c = let q = code_asks c.args.s.now c.requires.0 c.width-w.ensures.value c.grid_offset-grid.ensures.value c.loop-y.y (omega (arith, c.height-h.ensures.value, c.loop-y-test.true)) in (q.0, q.1, c.loop-y.invariant.1.size, code_plain c.args.s.now c.requires.0 c.width-w.ensures.value c.grid_offset-grid.ensures.value c.loop-y.y (omega (arith, c.height-h.ensures.value, c.loop-y-test.true)) c.height-h.ensures.value c.greatest-plain.ensures refl)
+mask_row-requires c =
+    let s = c.args.sheet.now in
+    let q = code_asks s.bytes.now s.accepted c.width-w.ensures.value c.grid_of-grid.ensures c.loop-y.y (omega (arith, c.height-y-end.ensures.value)) in
+    (q.0, c.loop-y.invariant.1.size, rw c.greatest-plain.ensures q.1)
 
 pub loop-y-preserved : goal.loop-y-preserved
-loop-y-preserved c = (omega arith, code_more c.args.s.now c.requires.0 c.width-w.ensures.value c.grid_offset-grid.ensures.value c.loop-y.y (omega (arith, c.height-h.ensures.value, c.loop-y-test.true)) _ _ c.loop-y.invariant.1 c.mask_row.ensures)
+loop-y-preserved c =
+    let s = c.args.sheet.now in (
+      omega (arith, c.height-y-end.ensures.value),
+      code_more s.bytes.now s.accepted c.width-w.ensures.value c.grid_of-grid.ensures c.loop-y.y (omega (arith, c.height-y-end.ensures.value)) _ _ c.loop-y.invariant.1 c.mask_row.ensures,
+    )
 
 pub returns : goal.returns
-returns c = mask_all c.args.s.now c.requires.0 c.loop-y.y _ (omega (arith, c.height-h.ensures.value)) (subst (λ (k : ℕ). Masked (read c.args.s.now) (c.loop-y.y * k) c.loop-y.mask) c.width-w.ensures.value c.loop-y.invariant.1)
+returns c = let s = c.args.sheet.now in mask_all s.bytes.now s.accepted c.loop-y.y _ (omega (arith, c.height-y-end.ensures.value)) c.loop-y.invariant.1

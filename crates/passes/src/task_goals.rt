@@ -1,0 +1,50 @@
+// The goals of a task on the padded grid.
+ghost use Rattle.std.specs.Prelude.{◌≡◌, ◌≤◌, reverse};
+ghost use Rattle.passes.specs.Ready.{Sized, GoalsOf};
+
+use bars::Size;
+use deck::Task;
+use sheet::AcceptedSheet;
+
+// At most eight padded places.
+#[derive(Clone, Copy, Debug, PartialEq, Eq)]
+pub struct Goals {
+    places: [usize; 8],
+    count: usize,
+    ghost few: { count ≤ 8 },
+}
+
+impl Goals {
+    ghost use Rattle.passes.specs.Listed.{listed};
+
+    // The goals of the task, in their order.
+    pub fn of(sheet: &AcceptedSheet, size: Size, task: Task) -> Goals
+        requires { Sized sheet.now.bytes.now size.width size.height }
+        ensures { GoalsOf sheet.now.bytes.now task (listed result) }
+    {
+        let count = sheet.goal_count(task);
+        let mut places = [0usize; 8];
+        for k in 0..count {
+            places[k] = size.pad(sheet.goal(task, k));
+        }
+        Goals { places, count }
+    }
+
+    // The same in reverse.
+    pub fn turned(&self) -> Goals
+        ensures { listed result ≡ reverse (listed self.now) }
+    {
+        let mut places = self.places;
+        places[..self.count].reverse();
+        Goals {
+            places,
+            count: self.count,
+        }
+    }
+
+    pub fn all(&self) -> &[usize]
+        ensures { result.now ≡ listed self.now }
+    {
+        &self.places[..self.count]
+    }
+}
