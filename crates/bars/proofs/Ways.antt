@@ -3,7 +3,8 @@ use Rattle.std.proofs.Common.{ℕ, zero, suc, ◌+◌, ◌<◌, ◌≡◌, ◌�
 use borrow.Author.Tests.{eq-eqb, ne_eqb}
 use Rattle.bars.specs.Ways.{number_of, all_ways}
 use Rattle.bars.specs.Bars.{way_of}
-use Rattle.bars.specs.declared.Way.TheVariants.{Above}
+use Rattle.bars.specs.declared.Way.{Way}
+use Rattle.bars.specs.declared.Way.TheVariants.{Above, Left, Same, Right, Below}
 
 module _ (wide a b : ℕ) where
   pub way_above : a + wide ≡ b → 0 ≡ way_of wide a b
@@ -36,3 +37,10 @@ way_at (suc (suc zero)) l = refl
 way_at (suc (suc (suc zero))) l = refl
 way_at (suc (suc (suc (suc zero)))) l = refl
 way_at (suc (suc (suc (suc (suc k))))) l = absurd (omega arith)
+
+pub number_small : (way : Way) → number_of way < 5
+number_small Above = omega arith
+number_small Left = omega arith
+number_small Same = omega arith
+number_small Right = omega arith
+number_small Below = omega arith

@@ -15,28 +15,27 @@ use Rattle.layers.proofs.Keeping.{kept_laid, laid_stays, words_fit}
 use Rattle.passes.specs.Ready.{Ready, Sized, layer_at, Backed}
 use Rattle.passes.proofs.Given.{wide_one, all_counted}
 
-module _ (s : List ℕ) (i : Carrier) (j : Task) (mask rs : List ℕ) (r : Ready s i j mask rs) (w h : ℕ) (sized : Sized s w h) where
+module _ (s : List ℕ) (i : Carrier) (j : Task) (mask rs : List ℕ) (r : Ready s i j mask rs) where
   abbrev many : ℕ
   many = words_for (read s).width (read s).height
 
   -- the layer of each time has room
-  layer_in : (t : ℕ) → t ≤ (read s).horizon → layer_at s t + many ≤ suc (read s).horizon * area (read s)
+  pub layer_in : (t : ℕ) → t ≤ (read s).horizon → layer_at s t + words_for (read s).width (read s).height ≤ suc (read s).horizon * area (read s)
   layer_in t l =
       let a = mul-le-mul {n₁ = suc t} {m₁ = many} {n₂ = suc (read s).horizon} {m₂ = area (read s)} (omega arith) (words_fit (read s).width (read s).height (wide_one r)) in
       omega (arith, suc-mul t many)
 
+module _ (s : List ℕ) (i : Carrier) (j : Task) (mask rs : List ℕ) (r : Ready s i j mask rs) (w h : ℕ) (sized : Sized s w h) where
+
   pub layer_room : (t : ℕ) (words : List ℕ) → t ≤ (read s).horizon → suc (read s).horizon * area (read s) ≤ length words → t * words_for w h + words_for w h ≤ length words
-  layer_room t words l room = rw (sized.0, sized.1) (omega (arith, layer_in t l))
+  layer_room t words l room = rw (sized.0, sized.1) (omega (arith, layer_in s i j mask rs r t l))
 
   -- and later times have later words
-  layers_apart : (t u : ℕ) → t < u → layer_at s t + many ≤ layer_at s u
-  layers_apart t u l = omega (arith, suc-mul t many, mul-le-mul_right many l)
+  layers_apart : (t u : ℕ) → t < u → layer_at s t + words_for (read s).width (read s).height ≤ layer_at s u
+  layers_apart t u l = omega (arith, suc-mul t (words_for (read s).width (read s).height), mul-le-mul_right (words_for (read s).width (read s).height) l)
 
   -- what is kept, in the sheet's numbers
-  KeptAt : ℕ → List ℕ → List ℕ → List ℕ → Type 0
-  KeptAt t x before after = Kept x ((read s).width + 2) (layer_at s t) many before after
-
-  kept_at_sheet : (t : ℕ) {x before after : List ℕ} → Kept x (w + 2) (t * words_for w h) (words_for w h) before after → Kept x ((read s).width + 2) (layer_at s t) many before after
+  kept_at_sheet : (t : ℕ) {x before after : List ℕ} → Kept x (w + 2) (t * words_for w h) (words_for w h) before after → Kept x ((read s).width + 2) (layer_at s t) (words_for (read s).width (read s).height) before after
   kept_at_sheet t {x} {before} {after} k = subst (λ (z : ℕ). Kept x (z + 2) (t * words_for z (read s).height) (words_for z (read s).height) before after) sized.0
       (subst (λ (z : ℕ). Kept x (w + 2) (t * words_for w z) (words_for w z) before after) sized.1 k)
 

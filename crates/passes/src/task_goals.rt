@@ -1,5 +1,5 @@
 // The goals of a task on the padded grid.
-ghost use Rattle.std.specs.Prelude.{◌≡◌, ◌≤◌, reverse};
+ghost use Rattle.std.specs.Prelude.{◌≡◌, ◌≤◌, length, reverse};
 ghost use Rattle.passes.specs.Ready.{Sized, GoalsOf};
 
 use bars::Size;
@@ -40,6 +40,12 @@ impl Goals {
             places,
             count: self.count,
         }
+    }
+
+    pub fn count(&self) -> usize
+        ensures { result ≡ length (listed self.now) }
+    {
+        self.count
     }
 
     pub fn all(&self) -> &[usize]

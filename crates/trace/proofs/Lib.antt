@@ -1,3 +1,4 @@
 pub mod Looking
 pub mod Seeing
+pub mod Tracing
 pub mod Writing

@@ -1,15 +1,18 @@
 -- A look around a place finds the next place of the trace. Assumes nothing.
 use Prim.Native.Nat.{ℕ, zero, suc, ◌+◌, ◌-◌, ◌≤◌, ◌<◌}
+use Rattle.std.specs.Prelude.{Option, None, Some}
+use Rattle.std.specs.List.{find, HoldsAt, AllWithin}
 use mathlib.Core.Path.{◌≡◌, refl, sym, ap, ◌∙◌, subst}
-use mathlib.Core.Logic.{◌≢◌}
-use mathlib.Core.Bool.{Bool, true, false, ◌&&◌}
+use mathlib.Core.Logic.{⊎_elim, ◌≢◌}
+use native.Mathlib.Nat.{eq-or-lt_of_le}
+use mathlib.Core.Bool.{Bool, true, false, cond, ◌&&◌}
 use mathlib.Core.List.{List, [], ◌∷◌}
 use native.Mathlib.Omega.{arith}
-use lib.ListN.{length, get_or}
+use lib.ListN.{length, get_or, take, drop, length-drop}
+use lib.Seq.{get_or-drop, take_all}
 use lib.Dec.{T, ltb}
-use borrow.Author.Tests.{eq-eqb, ne_eqb, lt-ltb, le-ltb}
+use borrow.Author.Tests.{eq-eqb, ne_eqb}
 use Rattle.deck.specs.Sheet.{Sheet, free, start_of, goals_of}
-use Rattle.deck.specs.Calls.{constraints_of}
 use Rattle.deck.specs.declared.Carrier.{Carrier}
 use Rattle.deck.specs.declared.Task.{Task}
 use Rattle.deck.specs.declared.Constraint.{Constraint}
@@ -19,17 +22,17 @@ use Rattle.kernel.specs.Goals.{up}
 use Rattle.kernel.specs.Labels.{all_goals, first_label, raised}
 use Rattle.kernel.specs.Parts.{free_move, step_free}
 use Rattle.kernel.specs.Kernel.{hind, onward}
-use Rattle.kernel.proofs.Both.{and_left, and_right, and_both, and_turned}
+use Rattle.kernel.proofs.Both.{and_left, and_turned}
 use Rattle.kernel.proofs.OfTask.{first_label_is, raised_is}
 use Rattle.kernel.proofs.OfSheet.{step_free_meant}
 use Rattle.bars.specs.Padded.{pad_of}
-use Rattle.bars.specs.Ways.{opens_by, turn_of, move_by}
-use Rattle.bars.proofs.Gates.{all_open}
 use Rattle.bars.proofs.Grid.{pad_inj}
-use Rattle.layers.specs.Packed.{kept_at}
 use Rattle.layers.specs.Raise.{GoalsAt}
-use Rattle.trace.specs.declared.Look.{Look}
-use Rattle.trace.specs.Along.{Visited, spot_of, way_on, leads_on, FirstWay}
+use Rattle.std.specs.Option.{option_map}
+use Rattle.bars.specs.declared.Way.{Way}
+use Rattle.bars.specs.declared.Way.TheVariants.{Above, Left, Same, Right, Below}
+use Rattle.bars.specs.Ways.{number_of, number_if, all_ways}
+use Rattle.trace.specs.Along.{Visited, FirstWay}
 
 -- a label is raised as far as the goals in front are the place
 up_run : (gs : List ℕ) (v k r : ℕ) → k ≤ r → r ≤ length gs → ((m : ℕ) → k ≤ m → m < r → get_or gs m 0 ≡ v) → (r < length gs → get_or gs r 0 ≢ v) → r ≡ up v gs k
@@ -69,37 +72,69 @@ onward_step d i j cs n t u k q h = and_left (step_free d u q) (free_move i cs t 
 pub onward_free : (d : Sheet) (i : Carrier) (j : Task) (cs : List Constraint) (n t u k q : ℕ) → T (onward d i j cs n t u k q) → T (free d q)
 onward_free d i j cs n t u k q h = (free_meant d q).test ((step_free_meant d u q).fact (onward_step d i j cs n t u k q h)).1.0
 
--- what the code finds by the way x
-module _ (mask rs work : List ℕ) (l : Look) (x : ℕ) where
-  pub spot_at : (r : ℕ) → r ≡ turn_of (l.w + 2) x → l.p + r - (l.w + 2) ≡ spot_of l x
-  spot_at r e = rw e refl
+-- the first of the ways that passes a test, by its number
+pub first_found : (ok : ℕ → Bool) (r : Option Way) → option_map (λ (x : Way). x) r ≡ find (λ x. ok (number_of x)) all_ways → FirstWay ok (number_if r)
+first_found ok r same = rw (itself r ∙ same) (go0 (ok 0) refl)
+  where
+    itself : (o : Option Way) → o ≡ option_map (λ (x : Way). x) o
+    itself None = refl
+    itself (Some x) = refl
 
-  module _ {q : ℕ} (e : q ≡ spot_of l x) where
-    pub way_shut : get_or mask q 0 ≡ 0 → false ≡ way_on mask rs work l x
-    way_shut h = rw (eq-eqb (get_or mask (spot_of l x) 0) 0 (subst (λ (y : ℕ). get_or mask y 0 ≡ 0) e h)) refl
+    Found : ℕ → Type 0
+    Found r = FirstWay ok r
 
-    module _ (n : get_or mask q 0 ≢ 0) {b : ℕ} (eb : b ≡ kept_at work l.at (q - (l.w + 2))) where
-      open_is : way_on mask rs work l x ≡ (ltb l.n (l.k + b) && free_move l.i (constraints_of rs) l.t l.u (move_by l.w l.u x))
-      open_is = rw (ne_eqb (get_or mask (spot_of l x) 0) 0 (λ h. n (subst (λ (y : ℕ). get_or mask y 0 ≡ 0) (sym e) h)), eb, e) refl
+    at : (r : ℕ) → r ≤ 5 → ((y : ℕ) → y < r → ok y ≡ false) → (r < 5 → ok r ≡ true) → Found r
+    at r l n o = record { within = l; before = λ y b h. subst T (n y b) h; passes = λ b. subst T (sym (o b)) tt }
 
-      pub way_late : l.k + b ≤ l.n → false ≡ way_on mask rs work l x
-      way_late h = rw (open_is, le-ltb l.n (l.k + b) h) refl
+    below1 : ok 0 ≡ false → (y : ℕ) → y < 1 → ok y ≡ false
+    below1 a zero b = a
+    below1 a (suc y) b = absurd (omega arith)
 
-      pub way_goes : l.n < l.k + b → (r : ℕ) → r ≡ turn_of l.w x → {a : Bool} → a ≡ free_move l.i (constraints_of rs) l.t l.u (l.u + r - l.w)
-          → a ≡ way_on mask rs work l x
-      way_goes h r er ea = rw (open_is, lt-ltb l.n (l.k + b) h) (ea ∙ rw er refl)
+    next : (r : ℕ) → ((y : ℕ) → y < r → ok y ≡ false) → ok r ≡ false → (y : ℕ) → y < suc r → ok y ≡ false
+    next r n e y b = ⊎_elim (λ q. let z : y ≡ r = omega arith in ap ok z ∙ e) (λ q. n y (omega arith)) (eq-or-lt_of_le b)
 
-  -- the place itself may be left that way, or not
-  pub leads_open : {o : Bool} → o ≡ opens_by (get_or mask l.p 0) x → o ≡ true → leads_on mask rs work l x ≡ way_on mask rs work l x
-  leads_open e h = rw (← e, h) refl
+    go4 : ((y : ℕ) → y < 4 → ok y ≡ false) → (b : Bool) → ok 4 ≡ b → Found (number_if (cond b (Some Below) None))
+    go4 n true e = at 4 (omega arith) n (λ l. e)
+    go4 n false e = at 5 (omega arith) (next 4 n e) (λ l. absurd (omega arith))
 
-  pub leads_shut : {o : Bool} → o ≡ opens_by (get_or mask l.p 0) x → o ≡ false → false ≡ leads_on mask rs work l x
-  leads_shut e h = rw (← e, h) refl
+    go3 : ((y : ℕ) → y < 3 → ok y ≡ false) → (b : Bool) → ok 3 ≡ b → Found (number_if (cond b (Some Right) (cond (ok 4) (Some Below) None)))
+    go3 n true e = at 3 (omega arith) n (λ l. e)
+    go3 n false e = go4 (next 3 n e) (ok 4) refl
 
--- where the place is no lane, the first way that leads on is one by which it may be left
-pub first_open : (mask rs work : List ℕ) (l : Look) (r : ℕ) → get_or mask l.p 0 ≡ 255 → FirstWay (way_on mask rs work l) r → FirstWay (leads_on mask rs work l) r
-first_open mask rs work l r e f = record {
-  within = f.within;
-  before = λ y b h. f.before y b (and_right (opens_by (get_or mask l.p 0) y) (way_on mask rs work l y) h);
-  passes = λ b. and_both (opens_by (get_or mask l.p 0) r) (way_on mask rs work l r) (rw e (all_open r b)) (f.passes b);
-}
+    go2 : ((y : ℕ) → y < 2 → ok y ≡ false) → (b : Bool) → ok 2 ≡ b → Found (number_if (cond b (Some Same) (cond (ok 3) (Some Right) (cond (ok 4) (Some Below) None))))
+    go2 n true e = at 2 (omega arith) n (λ l. e)
+    go2 n false e = go3 (next 2 n e) (ok 3) refl
+
+    go1 : ((y : ℕ) → y < 1 → ok y ≡ false) → (b : Bool) → ok 1 ≡ b
+        → Found (number_if (cond b (Some Left) (cond (ok 2) (Some Same) (cond (ok 3) (Some Right) (cond (ok 4) (Some Below) None)))))
+    go1 n true e = at 1 (omega arith) n (λ l. e)
+    go1 n false e = go2 (next 1 n e) (ok 2) refl
+
+    go0 : (b : Bool) → ok 0 ≡ b
+        → Found (number_if (cond b (Some Above) (cond (ok 1) (Some Left) (cond (ok 2) (Some Same) (cond (ok 3) (Some Right) (cond (ok 4) (Some Below) None))))))
+    go0 true e = at 0 (omega arith) (λ y b. absurd (omega arith)) (λ l. e)
+    go0 false e = go1 (below1 e) (ok 1) refl
+
+pub from_part : (l : List ℕ) (k : ℕ) → take (length l - k) (drop k l) ≡ drop k l
+from_part l k = take_all (length l - k) (drop k l) (omega (arith, length-drop k l))
+
+-- the goals passed from goal k on, up to the first that is another place
+module _ (goals : List ℕ) (k p : ℕ) (l : k ≤ length goals) where
+  at_drop : (m : ℕ) → k ≤ m → get_or (drop k goals) (m - k) 0 ≡ get_or goals m 0
+  at_drop m a = let e : k + (m - k) ≡ m = omega arith in get_or-drop k goals (m - k) 0 ∙ ap (λ (z : ℕ). get_or goals z 0) e
+
+  pub visited_some : {i : ℕ} → (i < length (drop k goals)) × HoldsAt (λ x. x ≢ p) (drop k goals) i × AllWithin (λ x. x ≡ p) (drop k goals) 0 i → Visited goals (length goals) p k (k + i)
+  visited_some {i} f = record {
+    from = omega arith;
+    within = omega (arith, f.0, length-drop k goals);
+    passed = λ m a b. sym (at_drop m a) ∙ f.2 (m - k) 0 (omega arith) (omega arith);
+    stops = λ b e. f.1 0 (get_or-drop k goals i 0 ∙ e);
+  }
+
+  pub visited_none : AllWithin (λ x. x ≡ p) (drop k goals) 0 (length (drop k goals)) → Visited goals (length goals) p k (length goals)
+  visited_none f = record {
+    from = l;
+    within = omega arith;
+    passed = λ m a b. sym (at_drop m a) ∙ f (m - k) 0 (omega arith) (omega (arith, length-drop k goals));
+    stops = λ b. absurd (omega arith);
+  }
