@@ -26,7 +26,6 @@ module _ (s : List ℕ) (i : Carrier) (j : Task) (mask rs : List ℕ) (r : Ready
       omega (arith, suc-mul t many)
 
 module _ (s : List ℕ) (i : Carrier) (j : Task) (mask rs : List ℕ) (r : Ready s i j mask rs) (w h : ℕ) (sized : Sized s w h) where
-
   pub layer_room : (t : ℕ) (words : List ℕ) → t ≤ (read s).horizon → suc (read s).horizon * area (read s) ≤ length words → t * words_for w h + words_for w h ≤ length words
   layer_room t words l room = rw (sized.0, sized.1) (omega (arith, layer_in s i j mask rs r t l))
 

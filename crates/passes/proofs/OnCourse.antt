@@ -1,5 +1,5 @@
 -- The passes on a course, in the numbers of the code. Assumes nothing.
-use Rattle.std.proofs.Common.{ℕ, ◌+◌, ◌-◌, ◌*◌, ◌≤◌, ◌<◌, ◌≡◌, refl, sym, ap, ◌∙◌, subst, true, false, ◌&&◌, List, reverse, length, get_or, replicate, ltb, leb, Option, None, Some, arith}
+use Rattle.std.proofs.Common.{ℕ, Bool, suc, ◌+◌, ◌-◌, ◌*◌, ◌≤◌, ◌<◌, ◌≡◌, sym, ap, ◌∙◌, subst, true, false, ◌&&◌, List, reverse, length, get_or, replicate, ltb, leb, arith}
 use lib.ListN.{length-reverse}
 use Rattle.deck.specs.Sheet.{start_of, last_goal, goals_of}
 use Rattle.sheet.proofs.Accepted.{start_on_grid, last_goal_on_grid}
@@ -15,7 +15,7 @@ use Rattle.passes.specs.Courses.{sheet_of, carrier_of, bars_of, EarlyOn, LeastOn
 use Rattle.passes.specs.declared.Course.{Course}
 use Rattle.passes.proofs.Given.{horizon_most}
 use Rattle.passes.proofs.Turning.{turned_goals}
-use Rattle.passes.proofs.Passing.{forth_on, back_on, place_small, hind_first, hind_next, Swept, end_at, ends_at, swept_on, sweep_below, swept_first, zeros_margin}
+use Rattle.passes.proofs.Passing.{forth_on, back_on, place_small, hind_first, hind_next, Swept, ends_here, ends_late, swept_on, swept_first, zeros_margin}
 use Rattle.passes.proofs.Backing.{layer_room, backed_first, backed_next, back_answer}
 
 -- what the forward pass goes by
@@ -23,7 +23,7 @@ pub record Sweep (u : Course) (goals : List ℕ) (from p horizon : ℕ) : Type 0
   pub of_task : goals ≡ listed u.goals
   pub early : EarlyOn u from
   pub at : p ≡ pad_of u.chains.now.size.width (last_goal (sheet_of u) u.task)
-  pub ends : horizon ≡ (sheet_of u).horizon
+  pub last : horizon ≡ (sheet_of u).horizon
 
 -- where it is at t
 abbrev pub SweptOn : Course → List ℕ → List ℕ → ℕ → Type 0
@@ -35,11 +35,6 @@ Layer u end t a = Holds (sheet_of u) a (hind (sheet_of u) (carrier_of u) u.task 
 
 abbrev pub Spare : Course → List ℕ → Type 0
 Spare u b = Margin (sheet_of u).width (sheet_of u).height b
-
--- what is not some number is none
-pub none_if : {o : Option ℕ} → ((x : ℕ) → o ≡ Some x → ⊥) → o ≡ None
-none_if {o = None} h = refl
-none_if {o = Some x} h = absurd (h x refl)
 
 module _ (u : Course) where
   abbrev s : List ℕ
@@ -69,16 +64,16 @@ module _ (u : Course) where
   sweep_first {goals} e f g sd =
       swept_first s (carrier_of u) u.task u.mask.now u.chains.now.records.now u.ready w h u.sized goals (rw e u.goals_at) (g ∙ ap (pad_of w) f) sd
 
-  module _ {goals : List ℕ} {from p horizon : ℕ} (q : Sweep u goals from p horizon) {a b : List ℕ} {t : ℕ} {o : Option ℕ} (v : SweptOn u a b t)
-      (x : o ≡ end_at (leb from t && ltb (length goals) (get_or a p 0)) t horizon) where
-    pub sweep_ends : {e : ℕ} → o ≡ Some e → LeastOn u e
-    sweep_ends y = ends_at s (carrier_of u) u.task u.mask.now u.chains.now.records.now u.ready w h u.sized goals (rw q.of_task u.goals_at) from q.early p horizon q.at q.ends v x y
+  module _ {goals : List ℕ} {from p horizon : ℕ} (q : Sweep u goals from p horizon) {a b : List ℕ} {t : ℕ} {m : Bool} (v : SweptOn u a b t)
+      (x : m ≡ (leb from t && ltb (length goals) (get_or a p 0))) where
+    pub sweep_ends : m ≡ true → LeastOn u t × (t ≤ (sheet_of u).horizon)
+    sweep_ends e = (ends_here s (carrier_of u) u.task u.mask.now u.chains.now.records.now u.ready w h u.sized goals (rw q.of_task u.goals_at) from q.early p q.at v x e, v.in_time)
 
-    pub sweep_goes : o ≡ None → t < (sheet_of u).horizon
-    sweep_goes y = sweep_below s (carrier_of u) u.task u.mask.now u.chains.now.records.now u.ready w h u.sized goals (rw q.of_task u.goals_at) from q.early p horizon q.at q.ends a v.in_time x y
+    pub sweep_late : m ≡ false → t ≡ horizon → LeastOn u (suc (sheet_of u).horizon)
+    sweep_late e z = ends_late s (carrier_of u) u.task u.mask.now u.chains.now.records.now u.ready w h u.sized goals (rw q.of_task u.goals_at) from q.early p q.at v x e (z ∙ q.last)
 
-    pub sweep_next : {c : List ℕ} {on : ℕ} → o ≡ None → on ≡ t + 1 → Stepped w h u.mask.now (carrier_of u) (bars_of u) t on false goals (length goals) a b c → SweptOn u c a on
-    sweep_next y e st = swept_on s (carrier_of u) u.task u.mask.now u.chains.now.records.now u.ready w h u.sized goals (rw q.of_task u.goals_at) from q.early p horizon q.at q.ends v x y e st
+    pub sweep_next : m ≡ false → (t ≡ horizon → ⊥) → {c : List ℕ} {on : ℕ} → on ≡ t + 1 → Stepped w h u.mask.now (carrier_of u) (bars_of u) t on false goals (length goals) a b c → SweptOn u c a on
+    sweep_next e z o st = swept_on s (carrier_of u) u.task u.mask.now u.chains.now.records.now u.ready w h u.sized goals (rw q.of_task u.goals_at) from q.early p q.at v x e (λ y. z (y ∙ sym q.last)) o st
 
   -- Backward
   turned_at : {goals : List ℕ} → goals ≡ reverse (listed u.goals) → Turned s u.task goals

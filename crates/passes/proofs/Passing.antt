@@ -1,18 +1,14 @@
 -- The code's layers are the layers of the two passes. Assumes nothing.
 use Prim.Native.Nat.{ℕ, suc, ◌+◌, ◌-◌, ◌≤◌, ◌<◌}
 use mathlib.Core.Path.{◌≡◌, refl, sym, ap, ◌∙◌, subst}
-use mathlib.Core.Logic.{◌⊎◌, inl, inr, ⊎_elim}
-use Rattle.std.specs.Prelude.{Option, None, Some}
-use Rattle.std.specs.Option.{unwrap_or}
-use Rattle.std.proofs.lemmas.Option.{none-some}
-use mathlib.Core.Bool.{Bool, true, false, cond, ◌&&◌}
+use mathlib.Core.Logic.{⊎_elim}
+use mathlib.Core.Bool.{Bool, true, false, ◌&&◌}
 use mathlib.Core.List.{List, reverse}
 use native.Mathlib.Nat.{eq-or-lt_of_le}
 use native.Mathlib.Numerals.{add-one}
 use native.Mathlib.Omega.{arith}
 use lib.ListN.{length, get_or, replicate, length-reverse, length-replicate, get_or-replicate, get_or-eq_default}
-use lib.Dec.{T, eqb, leb, ltb, leb→le, le→leb, ltb→lt, lt→ltb}
-use borrow.Author.Tests.{eqb-true, eqb-false}
+use lib.Dec.{T, leb, ltb, leb→le, le→leb, ltb→lt, lt→ltb}
 use Rattle.deck.specs.Sheet.{Sheet, read, area, start_of, goals_of, last_goal}
 use Rattle.deck.specs.Calls.{constraints_of}
 use Rattle.deck.specs.declared.Carrier.{Carrier}
@@ -173,60 +169,34 @@ zeros_margin w h = record { size = length-replicate {A = ℕ} 1156 0; over = λ 
     zeros q = ⊎_elim (λ h. get_or-replicate {A = ℕ} 1156 q 0 0 h)
         (λ h. get_or-eq_default (replicate {A = ℕ} 1156 0) 0 {n = q} (omega (arith, length-replicate {A = ℕ} 1156 0))) (lt_or_ge q 1156)
 
-some_is : {x y : ℕ} → Some x ≡ Some y → x ≡ y
-some_is {x} e = ap (λ (o : Option ℕ). unwrap_or o x) e
-
--- the end of the pass at t, from the test of its layer
-abbrev pub end_at : Bool → ℕ → ℕ → Option ℕ
-end_at m t horizon = cond m (Some t) (cond (eqb t horizon) (Some (t + 1)) None)
-
-pub end_some : (m : Bool) (t h e : ℕ) → end_at m t h ≡ Some e → ((m ≡ true) × (e ≡ t)) ⊎ ((m ≡ false) × (t ≡ h) × (e ≡ t + 1))
-end_some true t h e q = inl (refl, sym (some_is q))
-end_some false t h e q = go (eqb t h) refl q
-  where
-    go : (b : Bool) → eqb t h ≡ b → cond b (Some (t + 1)) None ≡ Some e → ((false ≡ true) × (e ≡ t)) ⊎ ((false ≡ false) × (t ≡ h) × (e ≡ t + 1))
-    go true f q = inr (refl, eqb-true t h f, sym (some_is q))
-    go false f q = absurd (none-some _ q)
-
-pub end_none : (m : Bool) (t h : ℕ) → end_at m t h ≡ None → (m ≡ false) × (t ≡ h → ⊥)
-end_none true t h q = absurd (none-some _ (sym q))
-end_none false t h q = (refl, go (eqb t h) refl q)
-  where
-    go : (b : Bool) → eqb t h ≡ b → cond b (Some (t + 1)) None ≡ None → t ≡ h → ⊥
-    go true f q e = none-some _ (sym q)
-    go false f q e = eqb-false t h f e
-
 -- One turn of the pass: from is early, n the number of goals and p the padded last goal
 module _ (s : List ℕ) (i : Carrier) (j : Task) (mask rs : List ℕ) (r : Ready s i j mask rs) (w h : ℕ) (sized : Sized s w h) (goals : List ℕ) (g : GoalsOf s j goals)
-    (from : ℕ) (f : Early s i j rs from) (p horizon : ℕ) (at : p ≡ pad_of w (last_goal (read s) j)) (eh : horizon ≡ (read s).horizon) where
-  abbrev test : ℕ → List ℕ → Bool
-  test t a = leb from t && ltb (length goals) (get_or a p 0)
-
+    (from : ℕ) (f : Early s i j rs from) (p : ℕ) (at : p ≡ pad_of w (last_goal (read s) j)) {a b : List ℕ} {t : ℕ} (v : Swept s i j rs a b t)
+    {m : Bool} (x : m ≡ (leb from t && ltb (length goals) (get_or a p 0))) where
   here : p ≡ pad_of (read s).width (last_goal (read s) j)
   here = at ∙ ap (λ (z : ℕ). pad_of z (last_goal (read s) j)) sized.0
 
-  -- the task can be finished at t, the first such time, or it cannot, and there is no time left
-  pub ends_at : {a b : List ℕ} {t e : ℕ} {o : Option ℕ} → Swept s i j rs a b t → o ≡ end_at (test t a) t horizon → o ≡ Some e → LeastTime (read s) i j (constraints_of rs) e
-  ends_at {a} {t} {e} v x y = ⊎_elim
-      (λ q. rw q.1 (time_here s i j mask rs r from f t (length goals) p v.in_time (sym g.many) here v.layer refl v.none_yet q.0))
-      (λ q. rw q.2 (time_none s i j mask rs r (t + 1) (not_here s i j mask rs r from f t (length goals) p v.in_time (sym g.many) here v.layer refl v.none_yet q.0) (omega (arith, q.1))))
-      (end_some (test t a) t horizon e (sym x ∙ y))
+  never : m ≡ false → (k : ℕ) → k < t + 1 → ¬ T (meets_at (read s) i j (constraints_of rs) k)
+  never e = not_here s i j mask rs r from f t (length goals) p v.in_time (sym g.many) here v.layer x v.none_yet e
 
-  -- neither, and the next layer is made
-  pub swept_on : {a b c : List ℕ} {t on : ℕ} {o : Option ℕ} → Swept s i j rs a b t → o ≡ end_at (test t a) t horizon → o ≡ None → on ≡ t + 1
+  -- the task can be finished at t, the first such time
+  pub ends_here : m ≡ true → LeastTime (read s) i j (constraints_of rs) t
+  ends_here e = time_here s i j mask rs r from f t (length goals) p v.in_time (sym g.many) here v.layer x v.none_yet e
+
+  -- it cannot, and there is no time left
+  pub ends_late : m ≡ false → t ≡ (read s).horizon → LeastTime (read s) i j (constraints_of rs) (suc (read s).horizon)
+  ends_late e z = let q : t + 1 ≡ suc (read s).horizon = omega arith in rw (← q) (time_none s i j mask rs r (t + 1) (never e) (omega arith))
+
+  -- it cannot, and the next layer is made
+  pub swept_on : m ≡ false → (t ≡ (read s).horizon → ⊥) → {c : List ℕ} {on : ℕ} → on ≡ t + 1
       → Stepped w h mask i (constraints_of rs) t on false goals (length goals) a b c → Swept s i j rs c a on
-  swept_on {a} {b} {c} {t} {on} v x y e st =
-      let q = end_none (test t a) t horizon (sym x ∙ y) in
-      let below : (t ≡ (read s).horizon → ⊥) = λ z. q.1 (z ∙ sym eh) in
+  swept_on e z {c} {on} o st =
       record {
         in_time = omega (arith, v.in_time);
-        layer = let z : on ≡ suc t = omega arith in rw z (fore_next s i j mask rs r w h sized goals g t on z v.layer v.spare st);
+        layer = let q : on ≡ suc t = omega arith in rw q (fore_next s i j mask rs r w h sized goals g t on q v.layer v.spare st);
         spare = holds_margin (read s) _ (fore (read s) i j (constraints_of rs) t) v.layer;
-        none_yet = rw e (not_here s i j mask rs r from f t (length goals) p v.in_time (sym g.many) here v.layer refl v.none_yet q.0);
+        none_yet = rw o (never e);
       }
-
-  pub sweep_below : (a : List ℕ) {t : ℕ} {o : Option ℕ} → t ≤ (read s).horizon → o ≡ end_at (test t a) t horizon → o ≡ None → t < (read s).horizon
-  sweep_below a {t} l x y = let q = end_none (test t a) t horizon (sym x ∙ y) in let below : (t ≡ (read s).horizon → ⊥) = λ z. q.1 (z ∙ sym eh) in omega arith
 
 -- the pass begins
 pub swept_first : (s : List ℕ) (i : Carrier) (j : Task) (mask rs : List ℕ) → Ready s i j mask rs → (w h : ℕ) → Sized s w h → (goals : List ℕ) → GoalsOf s j goals → {start : ℕ} {layer : List ℕ}

@@ -1,5 +1,5 @@
 -- What the two passes do on a course. Assumes nothing.
-use Rattle.std.specs.Prelude.{ℕ, suc, ◌*◌, ◌≤◌, Bool, List, length, ltb, Option}
+use Rattle.std.specs.Prelude.{ℕ, suc, ◌*◌, ◌≤◌, Bool, List, length, ltb, Option, None, Some}
 use Rattle.std.specs.Borrow.{Bor}
 use Rattle.deck.specs.Sheet.{Sheet, read, area, start_of}
 use Rattle.deck.specs.Calls.{constraints_of}
@@ -28,6 +28,11 @@ EarlyOn c from = Early c.sheet.now.bytes.now (carrier_of c) c.task c.chains.now.
 -- the least time at which the task can be finished, or one above the horizon
 abbrev pub LeastOn : Course → ℕ → Type 0
 LeastOn c t = LeastTime (sheet_of c) (carrier_of c) c.task (bars_of c) t
+
+-- the same of a time within the horizon, or none
+abbrev pub LeastIs : Course → Option ℕ → Type 0
+LeastIs c None = LeastOn c (suc (sheet_of c).horizon)
+LeastIs c (Some t) = LeastOn c t × (t ≤ (sheet_of c).horizon)
 
 -- the task can be finished at `end`
 abbrev pub can_finish : Course → ℕ → Bool

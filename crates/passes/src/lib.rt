@@ -2,23 +2,49 @@
 // be finished in time from each place, with the layers kept in the workspace.
 #![tactic(auto)]
 
-ghost use Rattle.std.specs.Prelude.{◌≡◌, ◌&&◌, cond, Option, None, Some, ◌+◌, ◌*◌, ◌<◌, ◌≤◌, length, get_or, leb, ltb, eqb, true, false};
+ghost use Rattle.std.specs.Prelude.{◌≡◌, ◌&&◌, ◌+◌, ◌*◌, ◌<◌, ◌≤◌, length, get_or, leb, ltb, true, false};
 ghost use Rattle.deck.specs.Calls.{constraints_of};
 ghost use Rattle.bars.specs.Padded.{row_of};
+ghost use Rattle.bars.specs.Bars.{count_in};
 ghost use Rattle.bars.specs.Ways.{is_back};
 ghost use Rattle.layers.specs.Packed.{Kept, words_for};
 ghost use Rattle.layers.specs.Step.{Stepped};
 ghost use Rattle.passes.specs.Ready.{Ready, Sized, GoalsOf};
 ghost use Rattle.passes.specs.Listed.{listed};
 
-use bars::{CELLS, Chains, Direction, Layer, Ways};
-use deck::Task;
+use bars::{CELLS, Chains, Direction, Layer, Size, Ways};
+use deck::{Carrier, Task};
 use layers::Pass;
 use sheet::AcceptedSheet;
 
 mod task_goals;
 
 pub use task_goals::Goals;
+
+// What a carrier's path is asked for by: an accepted sheet and its mask, the carrier and its task, and records of constraints.
+#[derive(Clone, Copy)]
+pub struct Errand<'a> {
+    pub sheet: &'a AcceptedSheet<'a>,
+    pub mask: &'a Layer,
+    pub carrier: Carrier,
+    pub task: Task,
+    pub records: &'a [u16],
+    pub ghost ready: { Ready sheet.now.bytes.now carrier task mask.now records.now },
+}
+
+impl<'a> Errand<'a> {
+    // The chains of the carrier's constraints, their links in these words.
+    pub fn chains(&self, links: &'a mut [u32]) -> Chains<'a>
+        requires { count_in self.now.records.now ≤ length links.old }
+        ensures { Sized self.now.sheet.now.bytes.now result.size.width result.size.height × (result.carrier ≡ self.now.carrier) × (result.records.now ≡ self.now.records.now) }
+    {
+        let size = Size {
+            width: self.sheet.width(),
+            height: self.sheet.height(),
+        };
+        Chains::new(size, self.records, self.carrier, links)
+    }
+}
 
 // What a carrier's path is sought by: an accepted sheet and its mask, the task and its goals, and the carrier's constraints.
 #[derive(Drop)]
@@ -33,28 +59,21 @@ pub struct Course<'a> {
     pub ghost goals_at: { GoalsOf sheet.now.bytes.now task (listed goals) },
 }
 
-// What ends a forward pass: a label above the number of goals on the padded last goal, not before the time `from`; or the horizon.
+// What a forward pass looks for: a label above the number of goals on the padded last goal, not before the time `from`.
 #[derive(Clone, Copy)]
 struct Target {
     place: usize,
     goals: usize,
     from: usize,
-    horizon: usize,
 }
 
 impl Target {
-    // The end, at the layer of t: t itself, or the next time where the horizon is passed.
-    fn end(self, layer: &Layer, t: usize) -> Option<usize>
-        requires { (self.place < 1156) × (t < 256) }
-        ensures { result ≡ cond (leb self.from t && ltb self.goals (get_or layer.now self.place 0)) (Some t) (cond (eqb t self.horizon) (Some (t + 1)) None) }
+    // It is met in the layer of t.
+    fn met(self, layer: &Layer, t: usize) -> bool
+        requires { self.place < 1156 }
+        ensures { result ≡ (leb self.from t && ltb self.goals (get_or layer.now self.place 0)) }
     {
-        if self.from <= t && self.goals < usize::from(layer[self.place]) {
-            Some(t)
-        } else if t == self.horizon {
-            Some(t + 1)
-        } else {
-            None
-        }
+        self.from <= t && self.goals < usize::from(layer[self.place])
     }
 }
 
@@ -69,13 +88,13 @@ fn back_step(pass: &Pass, t: usize, src: &Layer, dst: &mut Layer, words: &mut [u
 }
 
 impl<'a> Course<'a> {
-    ghost use Rattle.passes.specs.Courses.{sheet_of, EarlyOn, LeastOn, can_finish, Roomy, BackedOn, DoorsOn};
+    ghost use Rattle.passes.specs.Courses.{sheet_of, EarlyOn, LeastIs, can_finish, Roomy, BackedOn, DoorsOn};
 
     // The forward pass over the ways with these doors.
-    fn forward_by(&self, doors: Option<&Ways>, from: usize) -> usize
+    fn forward_by(&self, doors: Option<&Ways>, from: usize) -> Option<usize>
         requires early { EarlyOn self.now from }
         requires passable { DoorsOn self.now false doors }
-        ensures { LeastOn self.now result }
+        ensures { LeastIs self.now result }
     {
         let size = self.chains.size;
         let goals = self.goals.all();
@@ -90,28 +109,34 @@ impl<'a> Course<'a> {
             place: size.pad(self.sheet.last_goal(self.task)),
             goals: goals.len(),
             from,
-            horizon: self.sheet.horizon(),
         };
+        let horizon = self.sheet.horizon();
         let mut a = pass.seed(0, size.pad(self.sheet.start(self.chains.carrier)));
         let mut b = [0u8; CELLS];
         let mut t = 0;
         loop {
-            if let Some(end) = target.end(&a, t) {
-                return end;
+            if target.met(&a, t) {
+                return Some(t);
+            }
+            if t == horizon {
+                return None;
             }
             pass.step(t, t + 1, &a, &mut b);
-            if let Some(end) = target.end(&b, t + 1) {
-                return end;
+            if target.met(&b, t + 1) {
+                return Some(t + 1);
+            }
+            if t + 1 == horizon {
+                return None;
             }
             pass.step(t + 1, t + 2, &b, &mut a);
             t = t + 2;
         }
     }
 
-    // The least time at which the task can be finished, or one above the horizon; it is not before `from`.
-    pub fn forward(&self, from: usize) -> usize
+    // The least time at which the task can be finished within the horizon; it is not before `from`.
+    pub fn forward(&self, from: usize) -> Option<usize>
         requires { EarlyOn self.now from }
-        ensures { LeastOn self.now result }
+        ensures { LeastIs self.now result }
     {
         let size = self.chains.size;
         if layers::is_plain(self.mask, size) {
