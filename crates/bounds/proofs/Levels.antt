@@ -1,6 +1,6 @@
 -- The bounds of a label in the table, out of a layer that passed the test; and the table, filled label by label. Assumes nothing.
-use Rattle.std.proofs.Common.{ℕ, suc, ◌+◌, ◌-◌, ◌*◌, ◌≤◌, ◌<◌, ◌≡◌, sym, ap, ◌∙◌, subst, ◌⊎◌, inl, inr, List, eq-or-lt_of_le, arith, length, get_or, T, None}
-use Rattle.deck.specs.Sheet.{Sheet, cause, width_of, height_of, read, area, free, goals_of, last_goal}
+use Rattle.std.proofs.Common.{ℕ, suc, ◌+◌, ◌-◌, ◌*◌, ◌≤◌, ◌<◌, ◌≡◌, sym, ap, ◌∙◌, subst, ◌⊎◌, inl, inr, List, eq-or-lt_of_le, arith, length, get_or, T}
+use Rattle.deck.specs.Sheet.{Sheet, read, area, free, goals_of, last_goal}
 use Rattle.deck.specs.declared.Task.{Task}
 use Rattle.meaning.proofs.Paths.{free_meant}
 use Rattle.sheet.proofs.Accepted.{width_range, height_range, area_range, goals_range, goal_on_grid, last_of}
@@ -13,8 +13,8 @@ use Rattle.bars.proofs.Gates.{shade_gate, opens_shade}
 use Rattle.bars.proofs.Grid.{pad_least, pad_most, size_of, size_small}
 use Rattle.bars.proofs.Leads.{leads, step_way}
 use Rattle.layers.specs.Fill.{Filled}
-use Rattle.passes.specs.Ready.{Goals}
-use Rattle.bounds.specs.Graded.{Even, Layer, Given, Graded}
+use Rattle.passes.specs.Ready.{GoalsOf}
+use Rattle.bounds.specs.Graded.{Even, LayerBounds, Given, Graded}
 
 -- a step from u to v goes by a way by which u may be left; from v the way back leads to u
 pub layer_step : (d : Sheet) (mask x : List ℕ) → MaskOf d mask → Even x mask (d.width + 2) ((d.width + 2) * (d.height + 1)) → (u v : ℕ) → T (step_free d u v)
@@ -52,7 +52,7 @@ module _ (d : Sheet) (mask x : List ℕ) (at : ℕ) (before after : List ℕ) (f
       let e : at + u - at ≡ u = omega arith in
       f.inside (at + u) (omega arith) (omega arith) ∙ ap (λ (k : ℕ). get_or x (pad_of d.width k) 0) e
 
-  level_at : MaskOf d mask → (goal base g : ℕ) → Layer mask d.width d.height goal base x → goal ≡ pad_of d.width g → g < area d → Level d at g base before after
+  level_at : MaskOf d mask → (goal base g : ℕ) → LayerBounds mask d.width d.height goal base x → goal ≡ pad_of d.width g → g < area d → Level d at g base before after
   level_at m goal base g l e h = record {
     size = f.size;
     steps = λ u v s.
@@ -64,13 +64,13 @@ module _ (d : Sheet) (mask x : List ℕ) (at : ℕ) (before after : List ℕ) (f
 
 -- the same in the numbers of the code
 pub level_made : (d : Sheet) (mask x : List ℕ) {w h : ℕ} → w ≡ d.width → h ≡ d.height → (at : ℕ) (before after : List ℕ)
-    → Filled at (at + w * h) (λ p. get_or x (pad_of w (p - at)) 0) before after → MaskOf d mask → (goal base g : ℕ) → Layer mask w h goal base x → goal ≡ pad_of d.width g
+    → Filled at (at + w * h) (λ p. get_or x (pad_of w (p - at)) 0) before after → MaskOf d mask → (goal base g : ℕ) → LayerBounds mask w h goal base x → goal ≡ pad_of d.width g
     → g < area d → Level d at g base before after
 level_made d mask x {w} {h} ew eh at before after f m goal base g l e o =
     level_at d mask x at before after
     (subst (λ (b : ℕ). Filled at (at + d.width * b) (λ p. get_or x (pad_of d.width (p - at)) 0) before after) eh
     (subst (λ (a : ℕ). Filled at (at + a * h) (λ p. get_or x (pad_of a (p - at)) 0) before after) ew f)) m goal base g
-    (subst (λ (b : ℕ). Layer mask d.width b goal base x) eh (subst (λ (a : ℕ). Layer mask a h goal base x) ew l)) e o
+    (subst (λ (b : ℕ). LayerBounds mask d.width b goal base x) eh (subst (λ (a : ℕ). LayerBounds mask a h goal base x) ew l)) e o
 
 module _ (d : Sheet) (j : Task) (small : area d ≤ 1024) where
   abbrev gs : List ℕ
@@ -104,10 +104,6 @@ module _ (d : Sheet) (j : Task) (small : area d ≤ 1024) where
           (omega (arith, l.goal, l.beyond (1024 * suc k + get_or gs k 0) (omega arith)))
       enters m c (inr i) = omega (arith, l.beyond (1024 * m + get_or gs m 0) (omega arith), l.beyond (1024 * suc m + get_or gs m 0) (omega arith), g.enters m i c)
 
--- the sides of the grid
-pub sides : (s : List ℕ) → cause s ≡ None → {w h : ℕ} → w ≡ width_of s → h ≡ height_of s → (1 ≤ w) × (w ≤ 32) × (1 ≤ h) × (h ≤ 32)
-sides s a ew eh = rw (ew, eh) ((width_range s a).0, (width_range s a).1, (height_range s a).0, (height_range s a).1)
-
 module _ (s : List ℕ) (j : Task) (mask : List ℕ) (g : Given s j mask) where
   abbrev d : Sheet
   d = read s
@@ -120,27 +116,27 @@ module _ (s : List ℕ) (j : Task) (mask : List ℕ) (g : Given s j mask) where
 
   -- what the code asks
   module _ {w h : ℕ} (ew : w ≡ d.width) (eh : h ≡ d.height) where
-    module _ (goals : List ℕ) (G : Goals s j goals) where
+    module _ (goals : List ℕ) (G : GoalsOf s j goals) where
       pub goal_small : (k : ℕ) → k < K → get_or goals k 0 < 1156
       goal_small k l =
           let v : ℕ = get_or (goals_of d j) k 0 in
           let o = goal_on_grid s g.accepted j k in
-          omega (arith, G.at k l, pad_most d v o, size_of d.width d.height, size_small d.width d.height (width_range s g.accepted).1 (height_range s g.accepted).1, (width_range s g.accepted).1, (height_range s g.accepted).1)
+          omega (arith, G.at k (omega (arith, G.many)), pad_most d v o, size_of d.width d.height, size_small d.width d.height (width_range s g.accepted).1 (height_range s g.accepted).1, (width_range s g.accepted).1, (height_range s g.accepted).1)
 
       -- the level of the label k
-      level_of : (k at base : ℕ) (x before after : List ℕ) → k < K → Layer mask w h (get_or goals k 0) base x
+      level_of : (k at base : ℕ) (x before after : List ℕ) → k < K → LayerBounds mask w h (get_or goals k 0) base x
           → Filled at (at + w * h) (λ p. get_or x (pad_of w (p - at)) 0) before after → Level d at (get_or (goals_of d j) k 0) base before after
       level_of k at base x before after l y f =
-          level_made d mask x ew eh at before after f g.masked (get_or goals k 0) base (get_or (goals_of d j) k 0) y (G.at k l) (goal_on_grid s g.accepted j k)
+          level_made d mask x ew eh at before after f g.masked (get_or goals k 0) base (get_or (goals_of d j) k 0) y (G.at k (omega (arith, G.many))) (goal_on_grid s g.accepted j k)
 
       pub one_level : (k base : ℕ) (x before after : List ℕ) → k < K → Graded d j (suc k) before → base ≡ get_or before (1024 * (k + 1) + get_or (goals_of d j) k 0) 0
-          → Layer mask w h (get_or goals k 0) base x → Filled (1024 * k) (1024 * k + w * h) (λ p. get_or x (pad_of w (p - 1024 * k)) 0) before after → Graded d j k after
+          → LayerBounds mask w h (get_or goals k 0) base x → Filled (1024 * k) (1024 * k + w * h) (λ p. get_or x (pad_of w (p - 1024 * k)) 0) before after → Graded d j k after
       one_level k base x before after l r e y f =
           let i : 1024 * (k + 1) + get_or (goals_of d j) k 0 ≡ 1024 * suc k + get_or (goals_of d j) k 0 = omega arith in
           graded_more d j (area_range s g.accepted).1 k l base before after r (level_of k (1024 * k) base x before after l y f)
           (omega (arith, e, ap (λ (z : ℕ). get_or before z 0) i))
 
-      pub two_levels : (n : ℕ) → n ≡ K → (x first before after : List ℕ) → length first ≡ 9216 → Layer mask w h (get_or goals (n - 1) 0) 0 x
+      pub two_levels : (n : ℕ) → n ≡ K → (x first before after : List ℕ) → length first ≡ 9216 → LayerBounds mask w h (get_or goals (n - 1) 0) 0 x
           → Filled (1024 * n) (1024 * n + w * h) (λ p. get_or x (pad_of w (p - 1024 * n)) 0) first before
           → Filled (1024 * (n - 1)) (1024 * (n - 1) + w * h) (λ p. get_or x (pad_of w (p - 1024 * (n - 1))) 0) before after → Graded d j (n - 1) after
       two_levels n e x first before after z y f1 f2 =

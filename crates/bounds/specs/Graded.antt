@@ -1,10 +1,12 @@
 -- What is tested of the bounds: they fall by at most one with each step, and not at all where a goal is visited. Assumes nothing.
-use Rattle.std.specs.Prelude.{ℕ, suc, ◌+◌, ◌*◌, ◌≤◌, ◌<◌, ◌≡◌, List, length, get_or, T, None}
+use Rattle.std.specs.Prelude.{ℕ, suc, ◌+◌, ◌*◌, ◌≤◌, ◌<◌, ◌≡◌, ◌≢◌, List, length, get_or, T, None}
 use Rattle.deck.specs.Sheet.{Sheet, read, goals_of, last_goal, count_of, cause}
 use Rattle.deck.specs.declared.Task.{Task}
 use Rattle.kernel.specs.Parts.{step_free}
 use Rattle.bars.specs.Padded.{MaskOf}
-use Rattle.bars.specs.Ways.{move_by, way_back, opens_by}
+use Rattle.bars.specs.Ways.{number_of, move_by, way_back, opens_by}
+use Rattle.bars.specs.declared.Way.{Way}
+use Rattle.bars.specs.declared.Way.TheVariants.{Same}
 
 -- for each free place p of the padded places from `wide` to end - 1: at a place around it, by the way y, that may be left to p the
 -- number is greater by at most one
@@ -13,12 +15,12 @@ Even x mask wide end =
     (p y : ℕ) → wide ≤ p → p < end → 0 < get_or mask p 0 → y < 5 → T (opens_by (get_or mask (move_by wide p y) 0) (way_back y)) → get_or x (move_by wide p y) 0 ≤ suc (get_or x p 0)
 
 -- the same of what `counts` makes of a number, with the mask's byte of its place and the way that leads from it to p
-pub record EvenBy (counts : ℕ → ℕ → ℕ → ℕ → Type 0) (x mask : List ℕ) (wide end : ℕ) : Type 0 where
-  pub at : (p y : ℕ) → wide ≤ p → p < end → 0 < get_or mask p 0 → y < 5 → ¬ (y ≡ 2)
-      → (r : ℕ) × counts (get_or x (move_by wide p y) 0) (get_or mask (move_by wide p y) 0) (way_back y) r × (r ≤ suc (get_or x p 0))
+pub record EvenBy (counts : ℕ → ℕ → Way → ℕ → Type 0) (x mask : List ℕ) (wide end : ℕ) : Type 0 where
+  pub at : (p : ℕ) (way : Way) → wide ≤ p → p < end → 0 < get_or mask p 0 → way ≢ Same
+      → (r : ℕ) × counts (get_or x (move_by wide p (way_back (number_of way))) 0) (get_or mask (move_by wide p (way_back (number_of way))) 0) way r × (r ≤ suc (get_or x p 0))
 
 -- bounds of one label on the padded grid, at most `base` on its goal
-pub record Layer (mask : List ℕ) (w h goal base : ℕ) (x : List ℕ) : Type 0 where
+pub record LayerBounds (mask : List ℕ) (w h goal base : ℕ) (x : List ℕ) : Type 0 where
   pub even : Even x mask (w + 2) ((w + 2) * (h + 1))
   pub ends : get_or x goal 0 ≤ base
 

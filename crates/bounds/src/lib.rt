@@ -2,15 +2,19 @@
 // is proved of the search. Its distances are tested, and the bounds of a label that failed the test would be 0.
 #![tactic(auto)]
 
-ghost use Rattle.std.specs.Prelude.{◌≡◌, suc, ◌-◌, ◌<◌, ◌≤◌, length, None};
-ghost use Rattle.deck.specs.Sheet.{read, count_of, goals_of, cause};
+ghost use Rattle.std.specs.Prelude.{◌≡◌, suc, ◌-◌, ◌<◌, ◌≤◌, length};
+ghost use Rattle.deck.specs.Sheet.{read, count_of};
 ghost use Rattle.bars.specs.Padded.{MaskOf};
-ghost use Rattle.passes.specs.Ready.{Goals};
+ghost use Rattle.passes.specs.Ready.{Sized, GoalsOf};
+ghost use Rattle.passes.specs.Listed.{listed};
 ghost use Rattle.bounds.specs.Low.{Low};
 ghost use Rattle.bounds.specs.Graded.{Given, Graded};
 
+use bars::{Layer, Size};
 use deck::Task;
 use grid::Grid;
+use passes::Goals;
+use sheet::AcceptedSheet;
 
 mod grid;
 mod queue;
@@ -18,58 +22,58 @@ mod queue;
 // A task of a sheet on the padded grid, with its goals there.
 #[derive(Drop)]
 struct Route<'a, 'b> {
-    sheet: &'a [u8],
+    sheet: AcceptedSheet<'a>,
     task: Task,
     grid: Grid<'b>,
-    goals: [usize; 8],
-    count: usize,
-    ghost given: { Given sheet.now task grid.mask.now },
-    ghost sized: { (grid.width ≡ (read sheet.now).width) × (grid.height ≡ (read sheet.now).height) },
-    ghost goals_in_place: { Goals sheet.now task goals },
-    ghost goals_counted: { (count ≡ length (goals_of (read sheet.now) task)) × (1 ≤ count) × (count ≤ 8) },
+    goals: Goals,
+    ghost given: { Given sheet.bytes.now task grid.mask.now },
+    ghost sized: { Sized sheet.bytes.now grid.size.width grid.size.height },
+    ghost goals_in_place: { GoalsOf sheet.bytes.now task (listed goals) },
+    ghost has_goals: { (1 ≤ length (listed goals)) × (length (listed goals) ≤ 8) },
 }
 
 impl Route<'_, '_> {
     // The bounds once all goals are visited, and those with the last goal left: the steps to the last goal.
     fn last_two(&self, table: &mut [u8])
         requires { length table.old ≡ 9216 }
-        ensures { Graded (read self.now.sheet.now) self.now.task (self.now.count - 1) table.new }
+        ensures { Graded (read self.now.sheet.bytes.now) self.now.task (length (listed self.now.goals) - 1) table.new }
     {
-        let n = self.count;
-        let last = self.grid.layer(self.goals[n - 1], 0);
+        let goals = self.goals.all();
+        let n = goals.len();
+        let last = self.grid.layer(goals[n - 1], 0);
         self.grid.store(&last, 1024 * n, table);
         self.grid.store(&last, 1024 * (n - 1), table);
     }
 
     // The bounds with k goals visited: the steps to goal k, and the bound there with k + 1 visited.
     fn level(&self, k: usize, table: &mut [u8])
-        requires { (k < self.now.count) × Graded (read self.now.sheet.now) self.now.task (suc k) table.old }
-        ensures { Graded (read self.now.sheet.now) self.now.task k table.new }
+        requires { (k < length (listed self.now.goals)) × Graded (read self.now.sheet.bytes.now) self.now.task (suc k) table.old }
+        ensures { Graded (read self.now.sheet.bytes.now) self.now.task k table.new }
     {
-        let base = table[1024 * (k + 1) + sheet::goal(self.sheet, self.task, k)];
-        let layer = self.grid.layer(self.goals[k], base);
+        let base = table[1024 * (k + 1) + self.sheet.goal(self.task, k)];
+        let layer = self.grid.layer(self.goals.all()[k], base);
         self.grid.store(&layer, 1024 * k, table);
     }
 }
 
 // The table of bounds: 1024 bytes for each label 0 to 8, by place.
-pub fn bounds(s: &[u8], j: Task, mask: &[u8; 1156], table: &mut [u8])
-    requires { (cause s.now ≡ None) × (j.0 < count_of s.now) × MaskOf (read s.now) mask.now × (length table.old ≡ 9216) }
-    ensures { Low (read s.now) j table.new }
+pub fn bounds(sheet: AcceptedSheet, task: Task, mask: &Layer, table: &mut [u8])
+    requires { (task.0 < count_of sheet.bytes.now) × MaskOf (read sheet.bytes.now) mask.now × (length table.old ≡ 9216) }
+    ensures { Low (read sheet.entry.bytes.now) task table.new }
 {
+    let size = Size {
+        width: sheet.width(),
+        height: sheet.height(),
+    };
+    let goals = Goals::of(&sheet, size, task);
     let route = Route {
-        sheet: s,
-        task: j,
-        grid: Grid {
-            mask,
-            width: sheet::width(s),
-            height: sheet::height(s),
-        },
-        goals: passes::goals_of(s, j),
-        count: sheet::goal_count(s, j),
+        sheet,
+        task,
+        grid: Grid { mask, size },
+        goals,
     };
     route.last_two(table);
-    for k in (0..route.count - 1).rev() {
+    for k in (0..route.goals.all().len() - 1).rev() {
         route.level(k, table);
     }
 }

@@ -1,3 +1,4 @@
+// The queue of the breadth-first search.
 ghost use Rattle.std.specs.Prelude.{◌≡◌, false, suc, ◌+◌, ◌<◌, ◌≤◌, IfSome};
 
 const PLACES: usize = 1024;
