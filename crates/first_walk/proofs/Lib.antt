@@ -1,4 +1,5 @@
 pub mod Walking
 pub mod Looking
+pub mod Looks
 pub mod Diving
 pub mod Starting

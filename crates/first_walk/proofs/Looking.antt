@@ -6,10 +6,11 @@ use mathlib.Core.Bool.{Bool, true, false, ◌&&◌}
 use mathlib.Core.List.{List}
 use native.Mathlib.Numerals.{add-one}
 use native.Mathlib.Omega.{arith}
-use lib.ListN.{get_or}
+use lib.ListN.{length, get_or}
 use lib.Dec.{T, eqb, ltb→lt}
 use borrow.Author.Tests.{eqb-true}
-use Rattle.deck.specs.Sheet.{Sheet, read, area, free, goals_of}
+use Rattle.std.specs.Prelude.{Some}
+use Rattle.deck.specs.Sheet.{Sheet, read, area, free, last_goal}
 use Rattle.deck.specs.Calls.{constraints_of}
 use Rattle.deck.specs.declared.Carrier.{Carrier}
 use Rattle.deck.specs.declared.Task.{Task}
@@ -22,21 +23,45 @@ use Rattle.kernel.specs.Parts.{free_move, free_place, stands, step_free, parts_o
 use Rattle.kernel.proofs.Both.{and_left, and_right, and_both}
 use Rattle.kernel.proofs.OfTask.{raised_le}
 use Rattle.kernel.proofs.OfSheet.{stands_is, step_free_meant}
-use Rattle.bars.specs.Padded.{pad_of, Gate}
+use Rattle.bars.specs.Padded.{pad_of, row_of, Gate}
 use Rattle.bars.specs.Ways.{turn_of, move_by, place_by, has_by, leaves, opens_by}
 use Rattle.bars.proofs.Gates.{opens_shade, gate_shut, gate_open}
 use Rattle.bars.proofs.Grid.{pad_most, size_of, size_small}
 use Rattle.bars.proofs.Leads.{turn_most, leads, mask_by, step_by}
-use Rattle.layers.specs.Raise.{GoalsAt}
 use Rattle.passes.proofs.Given.{wide_one, wide_most, high_most, horizon_most, few_labels}
 use Rattle.trace.specs.Along.{Visited}
 use Rattle.trace.proofs.Looking.{visited_raised}
-use Rattle.first_walk.specs.declared.Seek.{Seek}
-use Rattle.first_walk.specs.declared.Ahead.TheVariants.{To}
-use Rattle.first_walk.specs.Walk.{slot_of, code_of, goes_by, Dead, On, Seen, Given}
+use Rattle.bounds.specs.Low.{Low}
+use Rattle.passes.specs.Ready.{Ready, Sized, GoalsOf}
+use Rattle.passes.specs.Listed.{listed}
+use Rattle.passes.specs.Courses.{carrier_of}
+use Rattle.first_walk.specs.Slots.{slot_of, code_of}
+use Rattle.first_walk.specs.Walk.{goes_by, Dead}
+use Rattle.first_walk.specs.Steps.{OnPlace, SeenFrom}
+use Rattle.first_walk.specs.declared.Walk.{Walk}
+use Rattle.first_walk.specs.declared.spot.Spot.{Spot}
 
-module _ {s : List ℕ} {i : Carrier} {j : Task} {mask goals rs heads links table : List ℕ} {l : Seek} (g : Given s i j mask goals rs heads links table l)
-    {t u p k : ℕ} (o : On (read s) j l.end t u p k) where
+and_no : (a : Bool) → (a && false) ≡ false
+and_no true = refl
+and_no false = refl
+
+-- What a walk is given, in plain terms
+pub record Given (s : List ℕ) (i : Carrier) (j : Task) (mask goals rs table : List ℕ) (wide high end last : ℕ) : Type 0 where
+  pub ready : Ready s i j mask rs
+  pub on_goals : GoalsOf s j goals
+  pub sized : Sized s wide high
+  pub low : Low (read s) j table
+  pub long : length table ≡ 9216
+  pub in_time : end ≤ (read s).horizon
+  pub final : last ≡ last_goal (read s) j
+
+pub given_of : (w : Walk)
+    → Given w.course.now.sheet.now.bytes.now (carrier_of w.course.now) w.course.now.task w.course.now.mask.now (listed w.course.now.goals) w.course.now.chains.now.records.now w.bounds.now
+    w.course.now.chains.now.size.width w.course.now.chains.now.size.height w.end w.last
+given_of w = record { ready = w.course.now.ready; on_goals = w.course.now.goals_at; sized = w.course.now.sized; low = w.low; long = w.long; in_time = w.in_time; final = w.ends }
+
+module _ {s : List ℕ} {i : Carrier} {j : Task} {mask goals rs table : List ℕ} {wide high end last : ℕ} (g : Given s i j mask goals rs table wide high end last)
+    {t u p k : ℕ} (o : OnPlace (read s) j end t u p k) where
   abbrev d : Sheet
   d = read s
 
@@ -55,15 +80,15 @@ module _ {s : List ℕ} {i : Carrier} {j : Task} {mask goals rs heads links tabl
   pub time_small : t < 256
   time_small = omega (arith, o.time, g.in_time, horizon_most g.ready)
 
-  pub width_small : (1 ≤ l.w) × (l.w ≤ 32)
-  width_small = (omega (arith, g.wide, wide_one g.ready), omega (arith, g.wide, wide_most g.ready))
+  pub width_small : (1 ≤ wide) × (wide ≤ 32)
+  width_small = (omega (arith, g.sized.0, wide_one g.ready), omega (arith, g.sized.0, wide_most g.ready))
 
   -- the padded place by the way x
-  abbrev spot : ℕ → ℕ
+  abbrev pub spot : ℕ → ℕ
   spot x = move_by ((read s).width + 2) (pad_of (read s).width u) x
 
-  pub spot_of : (x r : ℕ) → r ≡ turn_of (l.w + 2) x → p + r - (l.w + 2) ≡ spot x
-  spot_of x r e = rw (e, g.wide, o.padded) refl
+  pub spot_is : (x row q : ℕ) → row ≡ row_of wide → q ≡ move_by row p x → q ≡ spot x
+  spot_is x row q er e = rw (e, er, g.sized.0, o.padded) refl
 
   pub padded_small : p < 1156
   padded_small =
@@ -82,13 +107,13 @@ module _ {s : List ℕ} {i : Carrier} {j : Task} {mask goals rs heads links tabl
       )
 
   -- what it takes that the way x leads on
-  goes_asks : (x : ℕ) → T (goes_by d i j (constraints_of rs) l.end t u k x)
-      → T (has_by d u x) × T (pass w t u (place_by d u x)) × (all_goals d j < raised d j u (place_by d u x) k + back w (l.end - (t + 1)) (suc t) (place_by d u x))
+  goes_asks : (x : ℕ) → T (goes_by d i j (constraints_of rs) end t u k x)
+      → T (has_by d u x) × T (pass w t u (place_by d u x)) × (all_goals d j < raised d j u (place_by d u x) k + back w (end - (t + 1)) (suc t) (place_by d u x))
   goes_asks x h =
-      let a = and_right (has_by d u x) (good w (l.end - (t + 1)) t u k (place_by d u x)) h in (
-        and_left (has_by d u x) (good w (l.end - (t + 1)) t u k (place_by d u x)) h,
+      let a = and_right (has_by d u x) (good w (end - (t + 1)) t u k (place_by d u x)) h in (
+        and_left (has_by d u x) (good w (end - (t + 1)) t u k (place_by d u x)) h,
         and_left (pass w t u (place_by d u x)) _ a,
-        ltb→lt w.whole (w.raise u (place_by d u x) k + back w (l.end - (t + 1)) (suc t) (place_by d u x)) (and_right (pass w t u (place_by d u x)) _ a),
+        ltb→lt w.whole (w.raise u (place_by d u x) k + back w (end - (t + 1)) (suc t) (place_by d u x)) (and_right (pass w t u (place_by d u x)) _ a),
       )
 
   pass_step : (v : ℕ) → T (pass w t u v) → T (step_free d u v && free_move i (constraints_of rs) t u v)
@@ -102,7 +127,7 @@ module _ {s : List ℕ} {i : Carrier} {j : Task} {mask goals rs heads links tabl
 
   module _ (x : ℕ) (lx : x < 5) where
     abbrev Closed : Type 0
-    Closed = ¬ T (goes_by (read s) i j (constraints_of rs) l.end t u k x)
+    Closed = ¬ T (goes_by (read s) i j (constraints_of rs) end t u k x)
 
     mask_at : (q m : ℕ) → q ≡ spot x → m ≡ get_or mask q 0 → Gate (has_by d u x && free d (place_by d u x)) m
     mask_at q m e f = rw (f, e) (mask_by d u inside mask g.ready.masked x lx)
@@ -130,28 +155,38 @@ module _ {s : List ℕ} {i : Carrier} {j : Task} {mask goals rs heads links tabl
       pub at : v ≡ place_by d u x
       pub padded : q ≡ pad_of d.width v
 
-    pub open_way : (q m r : ℕ) → q ≡ spot x → m ≡ get_or mask q 0 → m ≢ 0 → r ≡ turn_of l.w x → (l.w ≤ u + r) × Opens (u + r - l.w) q
-    open_way q m r e f n er =
-        let a = gate_open (has_by d u x && free d (place_by d u x)) (mask_at q m e f) n in
-        let h = and_left (has_by d u x) (free d (place_by d u x)) a in
-        let b = leads d u inside x lx h in
-        let y : u + r - l.w ≡ place_by d u x = rw (er, g.wide) refl in
-        let c : turn_of l.w x ≡ turn_of d.width x = ap (λ (z : ℕ). turn_of z x) g.wide in (
-          omega (arith, g.wide, b.enough),
-          record { has = h; is_free = and_right (has_by d u x) (free d (place_by d u x)) a; at = y; padded = rw y (e ∙ sym b.padded) },
-        )
+    module _ (q : ℕ) (e : q ≡ spot x) (n : get_or mask q 0 ≢ 0) where
+      is_open : T (has_by d u x && free d (place_by d u x))
+      is_open = gate_open (has_by d u x && free d (place_by d u x)) (mask_at q (get_or mask q 0) e refl) n
 
-    module _ (tl : t < l.end) {v q : ℕ} (op : Opens v q) where
+      leads_there : T (has_by d u x)
+      leads_there = and_left (has_by d u x) (free d (place_by d u x)) is_open
+
+      pub way_enough : wide ≤ u + turn_of wide x
+      way_enough =
+          let c : turn_of wide x ≡ turn_of d.width x = ap (λ (z : ℕ). turn_of z x) g.sized.0 in
+          omega (arith, g.sized.0, (leads d u inside x lx leads_there).enough)
+
+      pub open_way : (v : ℕ) → v ≡ move_by wide u x → Opens v q
+      open_way v ev =
+          let y : v ≡ place_by d u x = rw (ev, g.sized.0) refl in
+          record {
+            has = leads_there;
+            is_free = and_right (has_by d u x) (free d (place_by d u x)) is_open;
+            at = y;
+            padded = rw y (e ∙ sym (leads d u inside x lx leads_there).padded);
+          }
+
+    module _ (tl : t < end) {v q : ℕ} (op : Opens v q) where
       pub open_inside : v < area d
       open_inside = rw op.at (leads d u inside x lx op.has).inside
 
       pub open_small : v < 1024
       open_small = omega (arith, open_inside, (area_range s g.ready.accepted).1)
 
-      module _ {c : ℕ} (vis : Visited goals l.n q k c) where
+      module _ {c : ℕ} (vis : Visited goals (length goals) q k c) where
         pub counted : c ≡ raised d j u v k
-        counted = visited_raised d j d.width (omega (arith, wide_one g.ready)) goals l.n
-            (subst (λ (y : ℕ). GoalsAt d.width (goals_of d j) goals y) (sym g.many) g.on_goals) u v q k c op.padded vis
+        counted = visited_raised d j d.width (omega (arith, wide_one g.ready)) goals (length goals) g.on_goals u v q k c op.padded vis
 
         pub count_within : c ≤ all_goals d j
         count_within = rw counted (raised_le d j u v k o.label)
@@ -162,18 +197,18 @@ module _ {s : List ℕ} {i : Carrier} {j : Task} {mask goals rs heads links tabl
         same_count : raised d j u (place_by d u x) k ≡ c
         same_count = ap (λ (y : ℕ). raised d j u y k) (sym op.at) ∙ sym counted
 
-        meets_there : T (goes_by d i j (constraints_of rs) l.end t u k x) → all_goals d j < c + back w (l.end - (t + 1)) (suc t) v
+        meets_there : T (goes_by d i j (constraints_of rs) end t u k x) → all_goals d j < c + back w (end - (t + 1)) (suc t) v
         meets_there h = rw op.at (rw same_count at (goes_asks x h).2)
 
         -- the bound says that it is too late
-        pub too_late : (b : ℕ) → b ≡ get_or table (1024 * c + v) 0 → l.end < t + 1 + b → Closed
-        too_late b e m h = omega (arith, g.low i (constraints_of rs) (l.end - (t + 1)) (suc t) v c count_within open_inside (meets_there h))
+        pub too_late : (b : ℕ) → b ≡ get_or table (1024 * c + v) 0 → end < t + 1 + b → Closed
+        too_late b e m h = omega (arith, g.low i (constraints_of rs) (end - (t + 1)) (suc t) v c count_within open_inside (meets_there h))
 
         -- it is remembered
-        pub was_dead : (dead : List ℕ) (b : Bool) → Dead d i j (constraints_of rs) l.end dead → b ≡ eqb (get_or dead (slot_of (t + 1) v) 0) (code_of (t + 1) v c) → b ≡ true → Closed
+        pub was_dead : (dead : List ℕ) (b : Bool) → Dead d i j (constraints_of rs) end dead → b ≡ eqb (get_or dead (slot_of (t + 1) v) 0) (code_of (t + 1) v c) → b ≡ true → Closed
         was_dead dead b f e y h =
             let a = f.fails (slot_of (t + 1) v) (t + 1) v c (omega arith) open_small count_within (eqb-true (get_or dead (slot_of (t + 1) v) 0) (code_of (t + 1) v c) (sym e ∙ y)) in
-            let m : all_goals d j < c + back w (l.end - (t + 1)) (t + 1) v = subst (λ (y : ℕ). all_goals d j < c + back w (l.end - (t + 1)) y v) (sym (add-one t)) (meets_there h) in
+            let m : all_goals d j < c + back w (end - (t + 1)) (t + 1) v = subst (λ (y : ℕ). all_goals d j < c + back w (end - (t + 1)) y v) (sym (add-one t)) (meets_there h) in
             omega arith
 
         -- what the constraints let
@@ -182,20 +217,27 @@ module _ {s : List ℕ} {i : Carrier} {j : Task} {mask goals rs heads links tabl
         lets_stand b e = rw (stands_is d i (constraints_of rs) (t + 1) v) e
 
         -- it is barred
-        pub barred_way : (b : Bool) → b ≡ (free_move i (constraints_of rs) t u v && free_place i (constraints_of rs) (t + 1) v) → b ≡ false → Closed
+        barred_way : (b : Bool) → b ≡ (free_move i (constraints_of rs) t u v && free_place i (constraints_of rs) (t + 1) v) → b ≡ false → Closed
         barred_way b e y h =
             let a = rw (← op.at) at (goes_asks x h).1 in
             subst T (sym (lets_stand b e) ∙ y)
             (and_both (free_move i (constraints_of rs) t u v) (stands d i (constraints_of rs) (t + 1) v) (and_right (step_free d u v) (free_move i (constraints_of rs) t u v) (pass_step v a))
             (rw (add-one t) (and_right (w.step t u v) (w.stand (suc t) v) a)))
 
+        pub barred_move : (b : Bool) → b ≡ free_move i (constraints_of rs) t u v → b ≡ false → Closed
+        barred_move b e y = barred_way false (rw (sym e ∙ y) refl) refl
+
+        pub barred_place : (b : Bool) → b ≡ free_place i (constraints_of rs) (t + 1) v → b ≡ false → Closed
+        barred_place b e y = barred_way false (rw (sym e ∙ y) (sym (and_no (free_move i (constraints_of rs) t u v)))) refl
+
         -- the way is open
-        pub clear_way : (a : Bool) → a ≡ opens_by (get_or mask p 0) x → a ≡ true → (b : Bool) → b ≡ (free_move i (constraints_of rs) t u v && free_place i (constraints_of rs) (t + 1) v) → b ≡ true
-            → Seen d i j (constraints_of rs) l.end t u k x (To v q c)
-        clear_way a f z b e y =
-            let both : T (free_move i (constraints_of rs) t u v && stands d i (constraints_of rs) (t + 1) v) = subst T (sym (sym (lets_stand b e) ∙ y)) tt in
+        pub clear_way : (a : Bool) → a ≡ opens_by (get_or mask p 0) x → a ≡ true → T (free_move i (constraints_of rs) t u v) → T (free_place i (constraints_of rs) (t + 1) v)
+            → (next : Spot) → next.time ≡ t + 1 → next.place ≡ v → next.padded ≡ q → next.visited ≡ c → SeenFrom d i j (constraints_of rs) end t u k x (Some next)
+        clear_way a f z fm fp next et ev eq ec =
+            let both : T (free_move i (constraints_of rs) t u v && stands d i (constraints_of rs) (t + 1) v) = subst T (lets_stand _ refl) (and_both (free_move i (constraints_of rs) t u v) (free_place i (constraints_of rs) (t + 1) v) fm fp) in
             let free-v : T (free d v) = rw op.at op.is_free in
-            let step : T (step_free d u v) = rw (op.at, step_by d u inside x lx op.has, sym (opens_is a f) ∙ z) (and_both (free d u) (free d (place_by d u x)) o.on_free op.is_free) in (
+            let step : T (step_free d u v) = rw (op.at, step_by d u inside x lx op.has, sym (opens_is a f) ∙ z) (and_both (free d u) (free d (place_by d u x)) o.on_free op.is_free) in
+            rw (et, ev, eq, ec) (
               op.has,
               op.at,
               counted,
@@ -203,4 +245,5 @@ module _ {s : List ℕ} {i : Carrier} {j : Task} {mask goals rs heads links tabl
                   (and_both (step_free d u v) (free_move i (constraints_of rs) t u v) step (and_left (free_move i (constraints_of rs) t u v) (stands d i (constraints_of rs) (t + 1) v) both))
                   (rw (← (add-one t)) (and_right (free_move i (constraints_of rs) t u v) (stands d i (constraints_of rs) (t + 1) v) both)),
               record { on_free = free-v; padded = op.padded; label = count_within; time = omega arith },
+              refl,
             )

@@ -31,11 +31,12 @@ use Rattle.meaning.proofs.Lists.{get_or_same}
 use Rattle.bars.specs.Ways.{place_by, has_by}
 use Rattle.bars.proofs.Leads.{mem_by, first_by, none_by}
 use Rattle.layers.specs.Fill.{Filled}
-use Rattle.first_walk.specs.declared.Ahead.{Ahead}
-use Rattle.first_walk.specs.declared.Ahead.TheVariants.{Shut, To}
-use Rattle.first_walk.specs.declared.Tried.{Tried}
-use Rattle.first_walk.specs.declared.Tried.TheVariants.{Found, NoWalk, Unknown}
-use Rattle.first_walk.specs.Walk.{code_of, Meets, Fails, goes_by, on_from, Written, Dead, DivedBy, Dived, LedBy, Led, Seen}
+use Rattle.std.specs.Prelude.{Result, Ok, Err, Some}
+use Rattle.first_walk.specs.declared.CutOff.{CutOff}
+use Rattle.first_walk.specs.declared.spot.Spot.{Spot}
+use Rattle.first_walk.specs.Slots.{code_of}
+use Rattle.first_walk.specs.Walk.{Meets, Fails, goes_by, on_from, Written, Dead, DivedBy, Dived, LedBy, Led}
+use Rattle.first_walk.specs.Steps.{SeenFrom}
 
 module _ (d : Sheet) (i : Carrier) (j : Task) (cs : List Constraint) where
   abbrev w : Parts
@@ -82,7 +83,7 @@ module _ (d : Sheet) (i : Carrier) (j : Task) (cs : List Constraint) (end : ℕ)
 
   -- at the end
   pub ends_here : (t u k : ℕ) (before : List ℕ) (x : ℕ) → x ≡ u → t ≡ end → k ≤ all_goals d j → end < length before
-      → T (eqb u (last_goal d j) && eqb k (all_goals d j)) → Dived d i j cs end t u k before (set before t x) Found
+      → T (eqb u (last_goal d j) && eqb k (all_goals d j)) → Dived d i j cs end t u k before (set before t x) (Ok true)
   ends_here t u k before x e h l room g =
       let o : end - t ≡ 0 = omega arith in
       record {
@@ -94,7 +95,7 @@ module _ (d : Sheet) (i : Carrier) (j : Task) (cs : List Constraint) (end : ℕ)
       }
 
   pub ends_not : (t u k : ℕ) (before : List ℕ) → t ≡ end → k ≤ all_goals d j → ¬ T (eqb u (last_goal d j) && eqb k (all_goals d j))
-      → Dived d i j cs end t u k before before NoWalk
+      → Dived d i j cs end t u k before before (Ok false)
   ends_not t u k before h l g =
       let o : end - t ≡ 0 = omega arith in
       record { says = (rw o (⊎_elim (λ m. absurd (g ((back_zero d i j cs t u k l).test m))) (λ m. m) (lt_or_ge (all_goals d j) (k + back parts 0 t u))), refl) }
@@ -115,7 +116,7 @@ module _ (d : Sheet) (i : Carrier) (j : Task) (cs : List Constraint) (end : ℕ)
 
     -- by the way x, the first
     pub goes_on : (x : ℕ) → x < 5 → ((y : ℕ) → y < x → ¬ T (goes_by d i j cs end t u k y)) → (before after : List ℕ) (z : ℕ) → z ≡ u → end < length before
-        → Led d i j cs end t u k x before after Found → Dived d i j cs end t u k before (set after t z) Found
+        → Led d i j cs end t u k x before after (Ok true) → Dived d i j cs end t u k before (set after t z) (Ok true)
     unfolding goes
     goes_on x lx h before after z e room ld =
         let g = ld.says.0 in
@@ -225,15 +226,15 @@ module _ (d : Sheet) (i : Carrier) (j : Task) (cs : List Constraint) (end : ℕ)
 
 -- What a look and the walk from where it leads say together
 module _ (d : Sheet) (i : Carrier) (j : Task) (cs : List Constraint) (end t u k x : ℕ) where
-  pub seen_shut : {r : Ahead} → r ≡ Shut → Seen d i j cs end t u k x r → ¬ T (goes_by d i j cs end t u k x)
-  seen_shut e s = subst (Seen d i j cs end t u k x) e s
+  abbrev steps : ℕ
+  steps = end - (t + 1)
 
-  pub seen_to : {r : Ahead} {y q c : ℕ} → r ≡ To y q c → Seen d i j cs end t u k x r → Seen d i j cs end t u k x (To y q c)
-  seen_to e s = subst (Seen d i j cs end t u k x) e s
+  module _ (n : Spot) (s : SeenFrom d i j cs end t u k x (Some n)) where
+    abbrev y : ℕ
+    y = n.place
 
-  module _ {y q c : ℕ} (s : Seen d i j cs end t u k x (To y q c)) where
-    abbrev steps : ℕ
-    steps = end - (t + 1)
+    abbrev c : ℕ
+    c = n.visited
 
     meets_next : Meets d i j cs end (t + 1) y c → T (goes_by d i j cs end t u k x)
     meets_next m =
@@ -250,23 +251,23 @@ module _ (d : Sheet) (i : Carrier) (j : Task) (cs : List Constraint) (end t u k 
         let m : all_goals d j < c + back (parts_of d i j cs) steps (t + 1) y = subst (λ (z : ℕ). all_goals d j < c + back (parts_of d i j cs) steps z y) (sym (add-one t)) a in
         omega arith
 
-    pub led_of : {before after : List ℕ} {r : Tried} → Dived d i j cs end (t + 1) y c before after r → Led d i j cs end t u k x before after r
-    led_of {before} {after} {r} h = record { says = go r h.says }
+    pub led_of : {before after : List ℕ} {r : Result Bool CutOff} → Dived d i j cs end n.time y c before after r → Led d i j cs end t u k x before after r
+    led_of {before} {after} {r} h = record { says = go r (subst (λ (z : ℕ). Dived d i j cs end z y c before after r) s.5 h).says }
       where
-        go : (r : Tried) → DivedBy d i j cs end (t + 1) y c before after r → LedBy d i j cs end t u k x before after r
-        go Found (m, f) = (
+        go : (r : Result Bool CutOff) → DivedBy d i j cs end (t + 1) y c before after r → LedBy d i j cs end t u k x before after r
+        go (Ok true) (m, f) = (
           meets_next m,
           subst (λ (z : ℕ). Written d i j cs end (t + 1) z (raised d j u z k) before after) s.1 (subst (λ (z : ℕ). Written d i j cs end (t + 1) y z before after) s.2 f),
         )
-        go NoWalk (f, e) = (fails_next f, e)
-        go Unknown e = e
+        go (Ok false) (f, e) = (fails_next f, e)
+        go (Err q) e = e
 
   -- what the answer by a way says, by its case
-  pub led_found : {now after : List ℕ} {r : Tried} → r ≡ Found → Led d i j cs end t u k x now after r → Led d i j cs end t u k x now after Found
+  pub led_found : {now after : List ℕ} {r : Result Bool CutOff} → r ≡ Ok true → Led d i j cs end t u k x now after r → Led d i j cs end t u k x now after (Ok true)
   led_found {now} {after} e h = subst (Led d i j cs end t u k x now after) e h
 
-  pub led_none : {now after : List ℕ} {r : Tried} → r ≡ NoWalk → Led d i j cs end t u k x now after r → (¬ T (goes_by d i j cs end t u k x)) × (after ≡ now)
+  pub led_none : {now after : List ℕ} {r : Result Bool CutOff} → r ≡ Ok false → Led d i j cs end t u k x now after r → (¬ T (goes_by d i j cs end t u k x)) × (after ≡ now)
   led_none {now} {after} e h = (subst (Led d i j cs end t u k x now after) e h).says
 
-  pub led_cut : {now after : List ℕ} {r : Tried} → r ≡ Unknown → Led d i j cs end t u k x now after r → after ≡ now
+  pub led_cut : {now after : List ℕ} {r : Result Bool CutOff} {q : CutOff} → r ≡ Err q → Led d i j cs end t u k x now after r → after ≡ now
   led_cut {now} {after} e h = (subst (Led d i j cs end t u k x now after) e h).says

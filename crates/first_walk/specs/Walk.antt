@@ -1,32 +1,18 @@
--- What the walk is given, where it is, what it remembers, and what it answers. Assumes nothing.
-use Rattle.std.specs.Prelude.{ℕ, ◌+◌, ◌-◌, ◌*◌, ◌%◌, ◌≤◌, ◌<◌, ◌≡◌, Bool, ◌&&◌, List, ◌∷◌, length, get_or, T}
-use Rattle.deck.specs.Sheet.{Sheet, read, free, start_of, goals_of, last_goal}
+-- When a walk finishes from where it is, what it remembers, and what it answers. Assumes nothing.
+use Rattle.std.specs.Prelude.{ℕ, ◌+◌, ◌-◌, ◌≤◌, ◌<◌, ◌≡◌, Bool, ◌&&◌, List, ◌∷◌, length, get_or, T, Result, Ok, Err, true, false}
+use Rattle.deck.specs.Sheet.{Sheet, start_of}
 use Rattle.deck.specs.Calls.{overwrite}
 use Rattle.deck.specs.declared.Carrier.{Carrier}
 use Rattle.deck.specs.declared.Task.{Task}
 use Rattle.deck.specs.declared.Constraint.{Constraint}
-use Rattle.kernel.specs.Layers.{pass, back, good, trace}
+use Rattle.kernel.specs.Layers.{back, good, trace}
 use Rattle.kernel.specs.Labels.{all_goals, raised}
 use Rattle.kernel.specs.Parts.{parts_of}
 use Rattle.kernel.specs.Kernel.{hind, path_at}
-use Rattle.bars.specs.Padded.{pad_of}
-use Rattle.bars.specs.Bars.{Chained}
 use Rattle.bars.specs.Ways.{place_by, has_by}
 use Rattle.layers.specs.Fill.{Filled}
-use Rattle.passes.specs.Ready.{Ready, Goals}
-use Rattle.bounds.specs.Low.{Low}
-use Rattle.first_walk.specs.declared.Seek.{Seek}
-use Rattle.first_walk.specs.declared.Ahead.{Ahead}
-use Rattle.first_walk.specs.declared.Ahead.TheVariants.{Shut, To}
-use Rattle.first_walk.specs.declared.Tried.{Tried}
-use Rattle.first_walk.specs.declared.Tried.TheVariants.{Found, NoWalk, Unknown}
-
--- where a place that failed is remembered, and its number there
-abbrev pub slot_of : ℕ → ℕ → ℕ
-slot_of t u = (31 * t + u) % 1024
-
-abbrev pub code_of : ℕ → ℕ → ℕ → ℕ
-code_of t u k = 1 + u + 1024 * k + 16384 * t
+use Rattle.first_walk.specs.declared.CutOff.{CutOff}
+use Rattle.first_walk.specs.Slots.{code_of}
 
 module _ (d : Sheet) (i : Carrier) (j : Task) (cs : List Constraint) (end : ℕ) where
   -- on u at t with the label k the task can be finished at the end, or cannot
@@ -54,52 +40,27 @@ module _ (d : Sheet) (i : Carrier) (j : Task) (cs : List Constraint) (end : ℕ)
     pub fails : (x t u k : ℕ) → t ≤ end → u < 1024 → k ≤ all_goals d j → get_or dead x 0 ≡ code_of t u k → Fails t u k
 
   -- the walk from u at t
-  abbrev pub DivedBy : ℕ → ℕ → ℕ → List ℕ → List ℕ → Tried → Type 0
-  DivedBy t u k before after Found = Meets t u k × Written t u k before after
-  DivedBy t u k before after NoWalk = Fails t u k × (after ≡ before)
-  DivedBy t u k before after Unknown = after ≡ before
+  abbrev pub DivedBy : ℕ → ℕ → ℕ → List ℕ → List ℕ → Result Bool CutOff → Type 0
+  DivedBy t u k before after (Ok true) = Meets t u k × Written t u k before after
+  DivedBy t u k before after (Ok false) = Fails t u k × (after ≡ before)
+  DivedBy t u k before after (Err e) = after ≡ before
 
-  pub record Dived (t u k : ℕ) (before after : List ℕ) (r : Tried) : Type 0 where
+  pub record Dived (t u k : ℕ) (before after : List ℕ) (r : Result Bool CutOff) : Type 0 where
     pub says : DivedBy t u k before after r
 
   -- the walk from u at t by the way x
-  abbrev pub LedBy : ℕ → ℕ → ℕ → ℕ → List ℕ → List ℕ → Tried → Type 0
-  LedBy t u k x before after Found =
+  abbrev pub LedBy : ℕ → ℕ → ℕ → ℕ → List ℕ → List ℕ → Result Bool CutOff → Type 0
+  LedBy t u k x before after (Ok true) =
       T (goes_by t u k x) × Written (t + 1) (place_by d u x) (raised d j u (place_by d u x) k) before after
-  LedBy t u k x before after NoWalk = (¬ T (goes_by t u k x)) × (after ≡ before)
-  LedBy t u k x before after Unknown = after ≡ before
+  LedBy t u k x before after (Ok false) = (¬ T (goes_by t u k x)) × (after ≡ before)
+  LedBy t u k x before after (Err e) = after ≡ before
 
-  pub record Led (t u k x : ℕ) (before after : List ℕ) (r : Tried) : Type 0 where
+  pub record Led (t u k x : ℕ) (before after : List ℕ) (r : Result Bool CutOff) : Type 0 where
     pub says : LedBy t u k x before after r
 
--- where the walk is: on the free place u at t, with the label k
-pub record On (d : Sheet) (j : Task) (end t u p k : ℕ) : Type 0 where
-  pub on_free : T (free d u)
-  pub padded : p ≡ pad_of d.width u
-  pub label : k ≤ all_goals d j
-  pub time : t ≤ end
-
--- a look by the way x
-abbrev pub Seen : Sheet → Carrier → Task → List Constraint → (end t u k x : ℕ) → Ahead → Type 0
-Seen d i j cs end t u k x Shut = ¬ T (goes_by d i j cs end t u k x)
-Seen d i j cs end t u k x (To v q c) =
-    T (has_by d u x) × (v ≡ place_by d u x) × (c ≡ raised d j u v k) × T (pass (parts_of d i j cs) t u v) × On d j end (t + 1) v q c
-
--- what the walk is given
-pub record Given (s : List ℕ) (i : Carrier) (j : Task) (mask goals rs heads links table : List ℕ) (l : Seek) : Type 0 where
-  pub ready : Ready s i j mask rs
-  pub on_goals : Goals s j goals
-  pub chained : Chained rs i.0 heads links
-  pub low : Low (read s) j table
-  pub long : length table ≡ 9216
-  pub in_time : l.end ≤ (read s).horizon
-  pub wide : l.w ≡ (read s).width
-  pub many : l.n ≡ length (goals_of (read s) j)
-  pub final : l.last ≡ last_goal (read s) j
-
 -- the answer: the first path that finishes at the end is written; there is none; or the walk was cut off
-abbrev pub Walked : Sheet → Carrier → Task → List Constraint → ℕ → List ℕ → List ℕ → Tried → Type 0
-Walked d i j cs end before after Found =
+abbrev pub Walked : Sheet → Carrier → Task → List Constraint → ℕ → List ℕ → List ℕ → Result Bool CutOff → Type 0
+Walked d i j cs end before after (Ok true) =
     (all_goals d j < hind d i j cs end 0 (start_of d i)) × (after ≡ overwrite (path_at d i j cs (d.horizon - end) end) before)
-Walked d i j cs end before after NoWalk = (¬ (all_goals d j < hind d i j cs end 0 (start_of d i))) × (after ≡ before)
-Walked d i j cs end before after Unknown = after ≡ before
+Walked d i j cs end before after (Ok false) = (¬ (all_goals d j < hind d i j cs end 0 (start_of d i))) × (after ≡ before)
+Walked d i j cs end before after (Err e) = after ≡ before

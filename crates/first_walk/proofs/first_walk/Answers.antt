@@ -1,29 +1,31 @@
--- `first_walk::first_walk` meets its contract: the walk from the start, and then the last goal. Assumes nothing.
-use native.Mathlib.Omega.{arith}
-use mathlib.Core.Path.{refl, ◌∙◌}
-use borrow.Author.Tests.{not-true, not-false}
-use Rattle.deck.specs.Sheet.{read}
-use Rattle.deck.specs.Calls.{constraints_of}
-use Rattle.sheet.proofs.Accepted.{area_range}
-use Rattle.passes.proofs.Given.{wide_one, wide_most, few_records}
+-- `first_walk` meets its contract: the walk from the start, and then the last goal. Assumes nothing.
+use Rattle.std.proofs.Common.{Ok, refl, ap, arith}
+use Rattle.passes.specs.Courses.{sheet_of, carrier_of, bars_of}
 use Rattle.first_walk.proofs.Walking.{dead_none}
-use Rattle.first_walk.proofs.Starting.{start_label, start_on, walked_barred, walked_none, walked_found}
+use Rattle.first_walk.proofs.Starting.{start_label, start_on, start_small, walked_barred, walked_none, walked_found}
 use Rattle.first_walk.proofs.first_walk.Goals as goal
 
-pub place_free-requires : goal.place_free-requires
-place_free-requires c = (omega arith, few_records c.requires.0, c.requires.2)
-
 pub returns-then-not-place_free : goal.returns-then-not-place_free
-returns-then-not-place_free c = walked_barred c.requires.0 c.args.end _ _ c.args.out.now c.start-u.ensures.value c.place_free.ensures (not-true _ c.if-not-place_free.true-raw)
+returns-then-not-place_free c = walked_barred c.args.course.now.ready c.args.end _ _ c.args.out.now c.start-place.ensures.value c.place_free.ensures c.if-not-place_free.true
 
-pub pad-p-requires : goal.pad-p-requires
-pad-p-requires c = (omega (arith, c.width-w.ensures.value, wide_one c.requires.0), omega (arith, c.width-w.ensures.value, wide_most c.requires.0), omega (arith, c.start-u.ensures.upper_bound c.requires.0.accepted, (area_range c.args.s.now c.requires.0.accepted).1))
+pub new-requires-2 : goal.new-requires-2
+new-requires-2 c = start_small c.args.course.now.ready c.args.end c.start-place.ensures.value c.args.course.now.sized.0 c.pad-padded.ensures (start_label c.args.course.now.ready c.args.end c.args.course.now.goals_at c.start-place.ensures.value c.args.course.now.sized.0 c.pad-padded.ensures (rw c.all.ensures at c.visit-visited.ensures))
 
-pub dive-r-requires : goal.dive-r-requires
-dive-r-requires c = (record { ready = c.requires.0; on_goals = c.requires.1; chained = c.requires.2; low = c.requires.3; long = c.requires.4; in_time = c.requires.5; wide = c.width-w.ensures.value; many = c.goal_count-n.ensures.value; final = c.last_goal-last.ensures.value }, start_on c.requires.0 c.args.end c.start-u.ensures.value c.width-w.ensures.value c.pad-p.ensures (start_label c.requires.0 c.args.end c.requires.1 c.goal_count-n.ensures.value c.start-u.ensures.value c.width-w.ensures.value c.pad-p.ensures c.visit-k.ensures), dead_none (read c.args.s.now) c.args.i c.args.j (constraints_of c.args.records.now) c.args.end, c.requires.6)
+pub dive-requires-clause-on : goal.dive-requires-clause-on
+dive-requires-clause-on c =
+    let n = c.new-2.ensures in
+    rw (n.0, n.1, n.2, n.3) (start_on c.args.course.now.ready c.args.end c.start-place.ensures.value c.args.course.now.sized.0 c.pad-padded.ensures (start_label c.args.course.now.ready c.args.end c.args.course.now.goals_at c.start-place.ensures.value c.args.course.now.sized.0 c.pad-padded.ensures (rw c.all.ensures at c.visit-visited.ensures)))
 
-pub returns-in-Found : goal.returns-in-Found
-returns-in-Found c = walked_found c.requires.0 c.args.end c.start-u.ensures.value (start_label c.requires.0 c.args.end c.requires.1 c.goal_count-n.ensures.value c.start-u.ensures.value c.width-w.ensures.value c.pad-p.ensures c.visit-k.ensures) c.dive-r.ensures.0 c.in-Found.is _ c.place_free.ensures (not-false _ c.if-not-place_free.false-raw) c.requires.5 c.requires.6 c.stay.ensures refl (omega (arith, c.horizon-horizon.ensures.value)) (c.narrow.ensures ∙ c.last_goal-last.ensures.value)
+pub dive-requires-clause-remembers : goal.dive-requires-clause-remembers
+dive-requires-clause-remembers c =
+    let w = c.args.course.now in
+    rw c.new.ensures (dead_none (sheet_of w) (carrier_of w) w.task (bars_of w) c.args.end)
 
-pub returns-in-NoWalk : goal.returns-in-NoWalk
-returns-in-NoWalk c = walked_none c.requires.0 c.args.end c.start-u.ensures.value (start_label c.requires.0 c.args.end c.requires.1 c.goal_count-n.ensures.value c.start-u.ensures.value c.width-w.ensures.value c.pad-p.ensures c.visit-k.ensures) c.dive-r.ensures.0 c.in-NoWalk.is
+pub returns-then-found : goal.returns-then-found
+returns-then-found c =
+    rw c.if-found.true
+    (walked_found c.args.course.now.ready c.args.end c.start-place.ensures.value (start_label c.args.course.now.ready c.args.end c.args.course.now.goals_at c.start-place.ensures.value c.args.course.now.sized.0 c.pad-padded.ensures (rw c.all.ensures at c.visit-visited.ensures)) (rw (c.new-2.ensures.0, c.new-2.ensures.1, c.new-2.ensures.3) at c.in_ok-found.ensures.dived) (ap Ok c.if-found.true) _ c.place_free.ensures c.if-not-place_free.false c.requires.in_time c.requires.room c.stay.ensures refl
+    (omega (arith, c.horizon.ensures.value)) c.last_goal-last.ensures.value)
+
+pub returns-else-found : goal.returns-else-found
+returns-else-found c = rw c.if-found.false (walked_none c.args.course.now.ready c.args.end c.start-place.ensures.value (start_label c.args.course.now.ready c.args.end c.args.course.now.goals_at c.start-place.ensures.value c.args.course.now.sized.0 c.pad-padded.ensures (rw c.all.ensures at c.visit-visited.ensures)) (rw (c.new-2.ensures.0, c.new-2.ensures.1, c.new-2.ensures.3) at c.in_ok-found.ensures.dived) (ap Ok c.if-found.false))
