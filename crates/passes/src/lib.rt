@@ -32,9 +32,9 @@ pub struct Errand<'a> {
     pub ghost ready: { Ready sheet.now.bytes.now carrier task mask.now records.now },
 }
 
-impl<'a> Errand<'a> {
+impl Errand<'_> {
     // The chains of the carrier's constraints, their links in these words.
-    pub fn chains(&self, links: &'a mut [u32]) -> Chains<'a>
+    pub fn chains<'b>(&'b self, links: &'b mut [u32]) -> Chains<'b>
         requires { count_in self.now.records.now ≤ length links.old }
         ensures { Sized self.now.sheet.now.bytes.now result.size.width result.size.height × (result.carrier ≡ self.now.carrier) × (result.records.now ≡ self.now.records.now) }
     {
