@@ -21,17 +21,35 @@ use Rattle.kernel.specs.Kernel.{hind, path_at, meets_at, LeastTime, NoEarlier}
 use Rattle.meaning.proofs.Tests.{is_true}
 use Rattle.kernel.proofs.Least.{meets_can, hind_can, no_time_none, time_path, time_finish}
 use Rattle.passes.specs.Ready.{Ready, Early}
+use Rattle.passes.specs.declared.Errand.{Errand}
 use Rattle.passes.proofs.Given.{begins_free, ends_free, in_time}
 use Rattle.by_passes.proofs.Finding.{guess_least, answers_found}
 use Rattle.first_walk.specs.Walk.{Walked}
-use Rattle.first_walk.specs.declared.Tried.{Tried}
-use Rattle.first_walk.specs.declared.Tried.TheVariants.{Found as WalkFound, NoWalk, Unknown}
+use Rattle.first_walk.specs.declared.CutOff.{CutOff}
+use Rattle.std.specs.Prelude.{Result, Ok, Err}
 use Rattle.bounds.specs.Low.{Low}
 use Rattle.sheet.proofs.Accepted.{count_range}
 use Rattle.scratch.specs.Bounded.{Bounded, SoughtFor}
-use Rattle.scratch.specs.declared.Sought.TheVariants.{Found, After}
 
-module _ (s : List ℕ) (i : Carrier) (j : Task) (mask rs : List ℕ) (r : Ready s i j mask rs) where
+module _ (errand : Errand) where
+  abbrev s : List ℕ
+  s = errand.sheet.now.bytes.now
+
+  abbrev i : Carrier
+  i = errand.carrier
+
+  abbrev j : Task
+  j = errand.task
+
+  abbrev mask : List ℕ
+  mask = errand.mask.now
+
+  abbrev rs : List ℕ
+  rs = errand.records.now
+
+  abbrev r : Ready s i j mask rs
+  r = errand.ready
+
   abbrev d : Sheet
   d = read s
 
@@ -76,13 +94,13 @@ module _ (s : List ℕ) (i : Carrier) (j : Task) (mask rs : List ℕ) (r : Ready
 
   module _ (from : ℕ) (e : Early s i j rs from) (le : from ≤ d.horizon) (before after : List ℕ) where
     -- the walk found the path
-    walk_found : Walked d i j cs from before after WalkFound → SoughtFor d i j cs before after (Found from)
+    walk_found : Walked d i j cs from before after (Ok true) → SoughtFor errand before after (Ok from)
     walk_found w =
         let t = guess_least s i j mask rs r from e le {b = true} (sym (is_true _ (lt→ltb (all_goals d j) (hind d i j cs from 0 (start_of d i)) w.0))) refl in
         answers_found s i j mask rs r from t le before after w.1
 
     -- no path finishes then
-    walk_later : Walked d i j cs from before after NoWalk → Early s i j rs (from + 1)
+    walk_later : Walked d i j cs from before after (Ok false) → Early s i j rs (from + 1)
     walk_later w = record {
       stay = omega (arith, e.stay);
       early = λ n l m. next n l m (ℕ_discrete n from);
@@ -95,18 +113,18 @@ module _ (s : List ℕ) (i : Carrier) (j : Task) (mask rs : List ℕ) (r : Ready
             absurd (w.0 (subst (λ (x : ℕ). all_goals d j < hind d i j cs x 0 (start_of d i)) z ((hind_can d i j cs (begins_free r) (ends_free r) (in_time r) n (d.horizon - n) (omega arith)).0 c).1))
 
   -- by the walk's answer, where nothing was written before it
-  module _ (from : ℕ) (e : Early s i j rs from) (le : from ≤ d.horizon) (first before after : List ℕ) (same : before ≡ first) (a : Tried) (w : Walked d i j cs from before after a) where
-    as_case : (b : Tried) → a ≡ b → Walked d i j cs from first after b
+  module _ (from : ℕ) (e : Early s i j rs from) (le : from ≤ d.horizon) (first before after : List ℕ) (same : before ≡ first) (a : Result Bool CutOff) (w : Walked d i j cs from before after a) where
+    as_case : (b : Result Bool CutOff) → a ≡ b → Walked d i j cs from first after b
     as_case b q = subst (λ (x : List ℕ). Walked d i j cs from x after b) same (subst (Walked d i j cs from before after) q w)
 
-    pub tried_found : a ≡ WalkFound → SoughtFor d i j cs first after (Found from)
-    tried_found q = walk_found from e le first after (as_case WalkFound q)
+    pub tried_found : a ≡ Ok true → SoughtFor errand first after (Ok from)
+    tried_found q = walk_found from e le first after (as_case (Ok true) q)
 
-    pub tried_cut : a ≡ Unknown → SoughtFor d i j cs first after (After from)
-    tried_cut q = (early_bound from e, as_case Unknown q)
+    pub tried_cut : {c : CutOff} → a ≡ Err c → SoughtFor errand first after (Err (record { 0 = from }))
+    tried_cut {c} q = (early_bound from e, as_case (Err c) q)
 
-    pub tried_later : a ≡ NoWalk → Early s i j rs (from + 1) × (after ≡ first)
-    tried_later q = (walk_later from e le first after (as_case NoWalk q), (as_case NoWalk q).1)
+    pub tried_later : a ≡ Ok false → Early s i j rs (from + 1) × (after ≡ first)
+    tried_later q = (walk_later from e le first after (as_case (Ok false) q), (as_case (Ok false) q).1)
 
   -- the task's part of the bounds
   module _ (bounds : List ℕ) (b : Bounded d bounds) where

@@ -1,27 +1,24 @@
 // One carrier's least path within the search's workspace, where the nodes stand too.
 #![tactic(auto)]
 
-ghost use Rattle.std.specs.Prelude.{◌≡◌, ℕ, suc, ◌≤◌, length};
-ghost use Rattle.deck.specs.Sheet.{read};
-ghost use Rattle.deck.specs.Paths.{least_path};
-ghost use Rattle.deck.specs.Calls.{constraints_of, path_found, path_written, workspace_for};
-ghost use Rattle.kernel.specs.Kernel.{NoEarlier};
-ghost use Rattle.passes.specs.Ready.{Ready};
+ghost use Rattle.std.specs.Prelude.{◌≡◌, suc, ◌≤◌, length};
+ghost use Rattle.deck.specs.Calls.{path_found, path_written, workspace_for};
 ghost use Rattle.scratch.specs.Front.{Front};
 ghost use Rattle.scratch.specs.Bounded.{Bounded, SoughtFor};
+ghost use Rattle.scratch.specs.Asked.{sheet_of, path_of, NotBefore};
 
-use deck::{Carrier, Task};
-use first_walk::Tried;
+use first_walk::CutOff;
+use passes::{Course, Errand, Goals};
 
-// What the walk says of the least path: found, with its finish; or none finishes before a time.
-#[derive(Clone, Copy)]
-pub enum Sought {
-    Found(usize),
-    After(usize),
-}
+// The walk did not find the least path: none finishes before this time.
+#[derive(Clone, Copy, Debug, PartialEq, Eq)]
+pub struct NoneBefore(pub usize);
 
 // How many times the walk is tried, each at a finish one later than the last.
 const TRIES: usize = 2;
+
+// The bytes of the lower bounds of one task.
+const BOUNDS: usize = 9216;
 
 // How many words of layers fit beside the links of all records in the spare words.
 const FEW: usize = 4096;
@@ -29,97 +26,87 @@ const FEW: usize = 4096;
 // By the two passes. They work in the words past the nodes, or, where a small sheet leaves too few of them for the links of all
 // records, in the spare words.
 fn by_passes(
-    s: &[u8],
-    i: Carrier,
-    j: Task,
-    mask: &[u8; 1156],
+    errand: &Errand,
     bound: usize,
     work: &mut [u32],
     spare: &mut [u32; 8192],
     out: &mut [u16],
-    records: &[u16],
 ) -> Option<usize>
-    requires { Ready s.now i j mask.now records.now × NoEarlier (read s.now) i j (constraints_of records.now) bound × (workspace_for (read s.now) ≤ length work.old) × (suc (read s.now).horizon ≤ length out.old) }
-    ensures answer { result ≡ path_found (read s.now) j (least_path (read s.now) i j (constraints_of records.now)) }
-    ensures written { out.new ≡ path_written (least_path (read s.now) i j (constraints_of records.now)) out.old }
-    ensures front { Front (read s.now).limit work.old work.new }
+    requires not_before { NotBefore errand.now bound }
+    requires workspace { workspace_for (sheet_of errand.now) ≤ length work.old }
+    requires room { suc (sheet_of errand.now).horizon ≤ length out.old }
+    ensures answer { result ≡ path_found (sheet_of errand.now) errand.now.task (path_of errand.now) }
+    ensures written { out.new ≡ path_written (path_of errand.now) out.old }
+    ensures front { Front (sheet_of errand.now).limit work.old work.new }
 {
-    let size = (sheet::horizon(s) + 1) * sheet::area(s);
+    let sheet = errand.sheet;
+    let size = (sheet.horizon() + 1) * sheet.area();
     if size < FEW {
-        return by_passes::least(s, i, j, mask, bound, spare, out, records);
+        return by_passes::least(errand, bound, spare, out);
     }
-    let from = 512 * sheet::limit(s) + 4096;
-    by_passes::least(s, i, j, mask, bound, &mut work[from..], out, records)
+    let from = 512 * sheet.limit() + 4096;
+    by_passes::least(errand, bound, &mut work[from..], out)
 }
 
 // By the walk: at the first time at which the path may finish, and at the next ones. A child's path mostly finishes when its
 // parent's does, or soon after.
 fn by_walk(
-    s: &[u8],
-    i: Carrier,
-    j: Task,
-    mask: &[u8; 1156],
+    errand: &Errand,
     bound: usize,
     links: &mut [u32; 8192],
     out: &mut [u16],
-    records: &[u16],
     bounds: &[u8],
-) -> Sought
-    requires { Ready s.now i j mask.now records.now × NoEarlier (read s.now) i j (constraints_of records.now) bound × (suc (read s.now).horizon ≤ length out.old) × Bounded (read s.now) bounds.now }
-    ensures { SoughtFor (read s.now) i j (constraints_of records.now) out.old out.new result }
+) -> Result<usize, NoneBefore>
+    requires not_before { NotBefore errand.now bound }
+    requires room { suc (sheet_of errand.now).horizon ≤ length out.old }
+    requires bounded { Bounded (sheet_of errand.now) bounds.now }
+    ensures { SoughtFor errand.now out.old out.new result }
 {
-    let horizon = sheet::horizon(s);
-    let goals = passes::goals_of(s, j);
-    let heads = bars::chains(records, i, links);
-    let at = 9216 * j.0;
-    let mut from = bars::later(bound, bars::stay_from(records, i, sheet::last_goal(s, j)));
+    let sheet = errand.sheet;
+    let chains = errand.chains(links);
+    let course = Course {
+        sheet,
+        mask: errand.mask,
+        task: errand.task,
+        goals: Goals::of(sheet, chains.size, errand.task),
+        chains: &chains,
+    };
+    let at = BOUNDS * errand.task.0;
+    let bounds = &bounds[at..at + BOUNDS];
+    let horizon = sheet.horizon();
+    let mut from = bound.max(chains.stay_from(sheet.last_goal(errand.task)));
     for _ in 0..TRIES {
         if horizon < from {
-            return Sought::After(from);
+            return Err(NoneBefore(from));
         }
-        match first_walk::first_walk(
-            s,
-            i,
-            j,
-            mask,
-            &goals,
-            records,
-            &heads,
-            links,
-            &bounds[at..at + 9216],
-            from,
-            out,
-        ) {
-            Tried::Found => return Sought::Found(from),
-            Tried::Unknown => return Sought::After(from),
-            Tried::NoWalk => {
-                from = from + 1;
-            }
+        match first_walk::first_walk(&course, bounds, from, out) {
+            Ok(true) => return Ok(from),
+            Ok(false) => from += 1,
+            Err(CutOff) => return Err(NoneBefore(from)),
         }
     }
-    Sought::After(from)
+    Err(NoneBefore(from))
 }
 
 // The least path, none finishing before `bound`: by the walk, and where that does not find it, by the passes. The nodes' words stay.
 pub fn least(
-    s: &[u8],
-    i: Carrier,
-    j: Task,
-    mask: &[u8; 1156],
+    errand: &Errand,
     bound: usize,
     work: &mut [u32],
     spare: &mut [u32; 8192],
     out: &mut [u16],
-    records: &[u16],
     bounds: &[u8],
 ) -> Option<usize>
-    requires { Ready s.now i j mask.now records.now × NoEarlier (read s.now) i j (constraints_of records.now) bound × (workspace_for (read s.now) ≤ length work.old) × (suc (read s.now).horizon ≤ length out.old) × Bounded (read s.now) bounds.now }
-    ensures answer { result ≡ path_found (read s.now) j (least_path (read s.now) i j (constraints_of records.now)) }
-    ensures written { out.new ≡ path_written (least_path (read s.now) i j (constraints_of records.now)) out.old }
-    ensures front { Front (read s.now).limit work.old work.new }
+    requires not_before { NotBefore errand.now bound }
+    requires workspace { workspace_for (sheet_of errand.now) ≤ length work.old }
+    requires room { suc (sheet_of errand.now).horizon ≤ length out.old }
+    requires bounded { Bounded (sheet_of errand.now) bounds.now }
+    ensures answer { result ≡ path_found (sheet_of errand.now) errand.now.task (path_of errand.now) }
+    ensures written { out.new ≡ path_written (path_of errand.now) out.old }
+    ensures front { Front (sheet_of errand.now).limit work.old work.new }
 {
-    match by_walk(s, i, j, mask, bound, spare, out, records, bounds) {
-        Sought::Found(finish) => Some(finish),
-        Sought::After(t) => by_passes(s, i, j, mask, t, work, spare, out, records),
+    match by_walk(errand, bound, spare, out, bounds) {
+        Ok(finish) => Some(finish),
+        Err(NoneBefore(time)) => by_passes(errand, time, work, spare, out),
     }
 }
