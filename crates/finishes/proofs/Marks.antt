@@ -4,7 +4,7 @@ use Rattle.std.proofs.lemmas.Bool.{ltb-true, ltb-false}
 use Rattle.std.proofs.lemmas.Option.{none-some, same_Some}
 use Rattle.std.proofs.lemmas.List.{map-set, length-map, get_or-map, take-map}
 use Rattle.std.proofs.Math.Seq.{map-set_same}
-use native.Mathlib.Decide.{ℕ_discrete}
+use Rattle.std.proofs.Math.Decide.{ℕ_discrete}
 use Rattle.deck.specs.Sheet.{Sheet, read, count_of, carrier, start_of, last_goal, free, cause}
 use Rattle.deck.specs.declared.Task.{Task}
 use Rattle.sheet.proofs.Accepted.{start_free, last_goal_free}

@@ -1,12 +1,6 @@
 -- The words that the passes take of the search's workspace: the words past the nodes have room for them, or the spare words do, and
 -- the nodes' words stay. Assumes nothing.
-use Prim.Native.Nat.{ℕ, suc, ◌+◌, ◌-◌, ◌*◌, ◌≤◌, ◌<◌}
-use mathlib.Core.Path.{◌≡◌, refl}
-use mathlib.Core.List.{List}
-use native.Mathlib.Nat.{mul-le-mul}
-use native.Mathlib.Numerals.{add-one}
-use native.Mathlib.Omega.{arith}
-use lib.ListN.{length, take, drop, length-take, length-drop}
+use Rattle.std.proofs.Common.{ℕ, suc, ◌+◌, ◌-◌, ◌*◌, ◌≤◌, ◌<◌, ◌≡◌, refl, List, mul-le-mul, add-one, arith, length, take, drop, length-take, length-drop}
 use borrow.Rule.Slice.PartMut.{put_mid, take_put}
 use Rattle.deck.specs.Sheet.{read, area, most_goals, horizon_of, limit_of}
 use Rattle.deck.specs.Calls.{workspace_for}

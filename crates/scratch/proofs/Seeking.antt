@@ -1,15 +1,8 @@
 -- From the walk's answers to the least path: found at the first time at which it may finish; or that time is one later. Assumes
 -- nothing.
-use Prim.Native.Nat.{ℕ, zero, suc, ◌+◌, ◌-◌, ◌*◌, ◌≤◌, ◌<◌}
-use mathlib.Core.Path.{◌≡◌, refl, sym, ap, subst, ◌∙◌}
-use mathlib.Core.Bool.{Bool, true, false}
-use mathlib.Core.List.{List}
+use Rattle.std.proofs.Common.{ℕ, zero, suc, ◌+◌, ◌-◌, ◌*◌, ◌≤◌, ◌<◌, ◌≡◌, refl, sym, ap, subst, ◌∙◌, Bool, true, false, List, arith, length, take, drop, length-take, length-drop, T, ltb, lt→ltb, ltb-true, ltb-false, Result, Ok, Err}
+use Rattle.std.proofs.Math.Decide.{ℕ_discrete}
 use Rattle.std.proofs.lemmas.Option.{none-some, same_Some as some_same}
-use native.Mathlib.Decide.{ℕ_discrete}
-use native.Mathlib.Omega.{arith}
-use lib.ListN.{length, take, drop, length-take, length-drop}
-use lib.Dec.{T, ltb, lt→ltb}
-use borrow.Author.Tests.{ltb-true, ltb-false}
 use Rattle.deck.specs.Sheet.{Sheet, read, start_of}
 use Rattle.deck.specs.Paths.{finish_of}
 use Rattle.deck.specs.Calls.{constraints_of}
@@ -26,7 +19,6 @@ use Rattle.passes.proofs.Given.{begins_free, ends_free, in_time}
 use Rattle.by_passes.proofs.Finding.{guess_least, answers_found}
 use Rattle.first_walk.specs.Walk.{Walked}
 use Rattle.first_walk.specs.declared.CutOff.{CutOff}
-use Rattle.std.specs.Prelude.{Result, Ok, Err}
 use Rattle.bounds.specs.Low.{Low}
 use Rattle.sheet.proofs.Accepted.{count_range}
 use Rattle.scratch.specs.Bounded.{Bounded, SoughtFor}

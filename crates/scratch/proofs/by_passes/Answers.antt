@@ -1,5 +1,5 @@
 -- `by_passes` meets its contract: what the call asks of its words, and the nodes' words stay. Assumes nothing.
-use native.Mathlib.Omega.{arith}
+use Rattle.std.proofs.Common.{arith}
 use Rattle.scratch.proofs.Rooms.{nodes_inside, spare_room, tail_room}
 use Rattle.scratch.proofs.by_passes.Goals as goal
 
