@@ -1,11 +1,11 @@
 -- From the least time to the answer and the words of the call. Assumes nothing.
-use Prim.Native.Nat.{ℕ, suc, ◌+◌, ◌-◌, ◌*◌, ◌≤◌, ◌<◌, zero-le}
+use Prim.Native.Nat.{ℕ, suc, ◌+◌, ◌-◌, ◌*◌, max, ◌≤◌, ◌<◌, zero-le}
 use mathlib.Core.Path.{◌≡◌, refl, sym, ap, ◌∙◌, subst}
 use mathlib.Core.Bool.{Bool, true}
 use mathlib.Core.List.{List}
 use native.Mathlib.Nat.{mul-le-mul}
 use native.Mathlib.Omega.{arith}
-use lib.ListN.{length, get_or}
+use lib.ListN.{length}
 use lib.Dec.{leb, ltb, leb→le}
 use borrow.Author.Tests.{ltb-true}
 use Rattle.deck.specs.Sheet.{Sheet, read, area, start_of, goals_of, last_goal, most_goals}
@@ -19,8 +19,7 @@ use Rattle.kernel.specs.Parts.{stay_from, rest_from}
 use Rattle.kernel.specs.Kernel.{fore, hind, path_at, meets_at, LeastTime, NoEarlier}
 use Rattle.kernel.proofs.Both.{and_left}
 use Rattle.kernel.proofs.Least.{rest_from_is, meets_can, hind_can, no_time_none, time_path, time_finish, bound_early}
-use Rattle.passes.specs.Ready.{Ready, Goals, Turned, Early, room_for}
-use Rattle.passes.proofs.Turning.{turned_goals}
+use Rattle.passes.specs.Ready.{Ready, Early, room_for}
 use Rattle.passes.proofs.Given.{begins_free, ends_free, in_time, few_records}
 
 module _ (s : List ℕ) (i : Carrier) (j : Task) (mask rs : List ℕ) (r : Ready s i j mask rs) where
@@ -49,11 +48,12 @@ module _ (s : List ℕ) (i : Carrier) (j : Task) (mask rs : List ℕ) (r : Ready
 
   -- the later of the bound and the time from which the carrier may stay
   pub early_of : (bound stay from : ℕ) → NoEarlier d i j (constraints_of rs) bound → stay ≡ rest_from d i (last_goal d j) (constraints_of rs)
-      → (bound ≤ from) × (stay ≤ from) × ((c : ℕ) → bound ≤ c → stay ≤ c → from ≤ c) → Early s i j rs from
+      → from ≡ max bound stay → Early s i j rs from
   unfolding meets_at
   early_of bound stay from h e g = record {
-    stay = omega (arith, g.1);
-    early = λ n l m. g.2 n (bound_early d i j (constraints_of rs) (begins_free r) (ends_free r) (in_time r) bound h n l m)
+    stay = omega arith;
+    early = λ n l m.
+        let b = bound_early d i j (constraints_of rs) (begins_free r) (ends_free r) (in_time r) bound h n l m in
         (let x = leb→le (rest_from d i (last_goal d j) (constraints_of rs)) n (and_left (leb (rest_from d i (last_goal d j) (constraints_of rs)) n) (ltb (all_goals d j) (fore d i j (constraints_of rs) n (last_goal d j))) m) in omega arith);
   }
 
@@ -84,9 +84,3 @@ module _ (s : List ℕ) (i : Carrier) (j : Task) (mask rs : List ℕ) (r : Ready
   enough_room work h =
       let a = mul-le-mul {n₁ = suc d.horizon * area d} {m₁ = 1} {n₂ = suc d.horizon * area d} {m₂ = suc (most_goals d)} (omega arith) (omega arith) in
       omega (arith, few_records r)
-
-  -- the goals in reverse
-  pub turned_of : (n : ℕ) → n ≡ length (goals_of d j) → (goals turned : List ℕ) → Goals s j goals → ((k : ℕ) → k < n → get_or turned k 0 ≡ get_or goals (n - 1 - k) 0) → Turned s j turned
-  turned_of n e goals turned g h =
-      turned_goals d.width (goals_of d j) goals turned (length (goals_of d j)) g
-      (subst (λ (z : ℕ). (k : ℕ) → k < z → get_or turned k 0 ≡ get_or goals (z - 1 - k) 0) e h)
