@@ -1,14 +1,13 @@
 -- From the least time to the answer and the words of the call. Assumes nothing.
 use Prim.Native.Nat.{ℕ, suc, ◌+◌, ◌-◌, ◌*◌, max, ◌≤◌, ◌<◌, zero-le}
-use mathlib.Core.Path.{◌≡◌, refl, sym, ap, ◌∙◌, subst}
+use mathlib.Core.Path.{◌≡◌, refl, sym, ap, ◌∙◌}
 use mathlib.Core.Bool.{Bool, true}
 use mathlib.Core.List.{List}
 use native.Mathlib.Nat.{mul-le-mul}
 use native.Mathlib.Omega.{arith}
-use lib.ListN.{length}
 use lib.Dec.{leb, ltb, leb→le}
 use borrow.Author.Tests.{ltb-true}
-use Rattle.deck.specs.Sheet.{Sheet, read, area, start_of, goals_of, last_goal, most_goals}
+use Rattle.deck.specs.Sheet.{Sheet, read, area, start_of, last_goal, most_goals}
 use Rattle.deck.specs.Paths.{least_path}
 use Rattle.deck.specs.Calls.{constraints_of, workspace_for, path_found, path_written, overwrite}
 use Rattle.deck.specs.declared.Carrier.{Carrier}

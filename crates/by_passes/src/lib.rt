@@ -1,13 +1,11 @@
-// One carrier's least path by the two passes: the mask of the sheet and a bound on the finish are handed in.
+// One carrier's least path by the two passes: an errand and a bound on the finish are handed in.
 #![tactic(auto)]
 
-ghost use Rattle.std.specs.Prelude.{◌≡◌, suc, ◌*◌, ◌≤◌, length};
-ghost use Rattle.deck.specs.Sheet.{read};
-ghost use Rattle.deck.specs.Paths.{least_path};
-ghost use Rattle.deck.specs.Calls.{constraints_of, path_found, path_written};
-ghost use Rattle.kernel.specs.Kernel.{NoEarlier};
+ghost use Rattle.std.specs.Prelude.{◌≡◌, suc, ◌≤◌, length};
+ghost use Rattle.deck.specs.Calls.{path_found, path_written};
 ghost use Rattle.passes.specs.Ready.{room_for};
 ghost use Rattle.passes.specs.Courses.{EarlyOn, Roomy};
+ghost use Rattle.by_passes.specs.Asked.{sheet_of, path_of, NotBefore};
 ghost use Rattle.by_passes.specs.Finished.{Finished};
 
 use passes::{Course, Errand, Goals};
@@ -26,30 +24,31 @@ fn finish(course: &Course, bound: usize, from: usize, words: &mut [u32]) -> Opti
     if 0 < bound && course.backward(from, words) {
         return Some(from);
     }
-    let end = course.forward(from)?;
-    course.backward(end, words);
-    Some(end)
+    let first = course.forward(from)?;
+    course.backward(first, words);
+    Some(first)
 }
 
 // The finish of the least path, where there is one, none finishing before `bound`; it is written only then.
 pub fn least(errand: &Errand, bound: usize, work: &mut [u32], out: &mut [u16]) -> Option<usize>
-    requires bounded { NoEarlier (read errand.now.sheet.now.bytes.now) errand.now.carrier errand.now.task (constraints_of errand.now.records.now) bound }
-    requires room { room_for errand.now.sheet.now.bytes.now errand.now.records.now ≤ length work.old }
-    requires long { suc (read errand.now.sheet.now.bytes.now).horizon ≤ length out.old }
-    ensures finish { result ≡ path_found (read errand.now.sheet.now.bytes.now) errand.now.task (least_path (read errand.now.sheet.now.bytes.now) errand.now.carrier errand.now.task (constraints_of errand.now.records.now)) }
-    ensures written { out.new ≡ path_written (least_path (read errand.now.sheet.now.bytes.now) errand.now.carrier errand.now.task (constraints_of errand.now.records.now)) out.old }
+    requires not_before { NotBefore errand.now bound }
+    requires words { room_for errand.now.sheet.now.bytes.now errand.now.records.now ≤ length work.old }
+    requires room { suc (sheet_of errand.now).horizon ≤ length out.old }
+    ensures answer { result ≡ path_found (sheet_of errand.now) errand.now.task (path_of errand.now) }
+    ensures written { out.new ≡ path_written (path_of errand.now) out.old }
 {
+    let sheet = errand.sheet;
     let (links, words) = work.split_at_mut(errand.records.len() / 5);
     let chains = errand.chains(links);
     let course = Course {
-        sheet: errand.sheet,
+        sheet,
         mask: errand.mask,
         task: errand.task,
-        goals: Goals::of(errand.sheet, chains.size, errand.task),
+        goals: Goals::of(sheet, chains.size, errand.task),
         chains: &chains,
     };
-    let stay = chains.stay_from(errand.sheet.last_goal(errand.task));
-    let end = finish(&course, bound, bound.max(stay), words)?;
+    let from = bound.max(chains.stay_from(sheet.last_goal(errand.task)));
+    let end = finish(&course, bound, from, words)?;
     let kept = Kept {
         course: &course,
         words,

@@ -5,7 +5,7 @@ use Rattle.deck.specs.Calls.{path_found, path_written}
 use Rattle.deck.specs.declared.Task.{Task}
 use Rattle.bounds.specs.Low.{Low}
 use Rattle.passes.specs.declared.Errand.{Errand}
-use Rattle.scratch.specs.Asked.{sheet_of, path_of, NotBefore}
+use Rattle.by_passes.specs.Asked.{sheet_of, path_of, NotBefore}
 use Rattle.scratch.specs.declared.NoneBefore.{NoneBefore}
 
 -- 9216 bytes to a task

@@ -5,7 +5,7 @@ ghost use Rattle.std.specs.Prelude.{◌≡◌, suc, ◌≤◌, length};
 ghost use Rattle.deck.specs.Calls.{path_found, path_written, workspace_for};
 ghost use Rattle.scratch.specs.Front.{Front};
 ghost use Rattle.scratch.specs.Bounded.{Bounded, SoughtFor};
-ghost use Rattle.scratch.specs.Asked.{sheet_of, path_of, NotBefore};
+ghost use Rattle.by_passes.specs.Asked.{sheet_of, path_of, NotBefore};
 
 use first_walk::CutOff;
 use passes::{Course, Errand, Goals};

@@ -23,7 +23,7 @@ loop-init c =
     let h = c.chains-chains.ensures in
     let stays = rw (h.1, h.2) at c.stay_from.ensures in (
       early_of _ _ _ _ _ e.ready c.args.bound c.stay_from.result c.max-from.result c.requires.not_before (rest_of _ _ _ _ _ e.ready c.stay_from.result c.last_goal.result stays c.last_goal.ensures.value)
-          (omega (arith, c.max-from.ensures), omega (arith, c.max-from.ensures), λ n a b. omega (arith, c.max-from.ensures)),
+          c.max-from.ensures,
       refl,
     )
 
