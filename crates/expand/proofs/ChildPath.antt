@@ -11,7 +11,7 @@ use lib.ListN.{length, get_or, take, drop}
 use lib.Seq.{take_at}
 use borrow.Author.Tests.{le-ltb, lt-ltb}
 use Rattle.deck.specs.Lists.{select, each}
-use Rattle.deck.specs.Sheet.{Sheet, read, carrier, task, start_of, count_of}
+use Rattle.deck.specs.Sheet.{Sheet, carrier, task, start_of}
 use Rattle.deck.specs.Paths.{walks, least_path, finish_of}
 use Rattle.deck.specs.Assignments.{barred, table_of}
 use Rattle.deck.specs.Search.{State, Turn, task_of, path_at, child_node}
@@ -42,6 +42,8 @@ use Rattle.nodes.proofs.Kept.{front_alike, front_keys, kept_stored, kept_nodes, 
 use Rattle.roots.proofs.Begun.{slots_kept_records}
 use Rattle.expand.specs.Children.{Branch, child_task, child_path}
 use Rattle.scratch.specs.Front.{Front}
+use Rattle.expand.specs.declared.given.Given.{Given}
+use Rattle.expand.specs.Given.{sheet_of}
 use Rattle.expand.specs.Held.{Held, Same, Grew, grown}
 
 -- THE WORDS PAST THE KEYS are no part of what is held
@@ -79,21 +81,27 @@ select_few f (c ∷ l) = go (f c) (select_few f l)
     go false h = omega arith
 
 -- THE LEAST PATH OF THE CHILD of node n by the constraint c
-module _ {s mask work bounds : List ℕ} {made latest n : ℕ} {c : Constraint} (x : Branch s mask work bounds made latest n c) where
+module _ {g : Given} {work : List ℕ} {made latest n : ℕ} {c : Constraint} (x : Branch g work made latest n c) where
+  abbrev s : List ℕ
+  s = g.sheet.now.bytes.now
+
+  abbrev mask : List ℕ
+  mask = g.mask.now
+
   abbrev d : Sheet
-  d = read s
+  d = sheet_of g
 
   abbrev stored : Stored d d.limit work made
   stored = x.held.1.stored
 
   fits : Fits d
-  fits = accepted_fits s x.accepted
+  fits = accepted_fits s g.sheet.now.accepted
 
   pub record_room : 512 * n + 512 ≤ length work
   record_room = omega (arith, x.below, x.held.1.within, records_room d (length work) x.room)
 
   pub number_small : n < 4096
-  number_small = omega (arith, x.below, x.held.1.within, limit_range s x.accepted)
+  number_small = omega (arith, x.below, x.held.1.within, limit_range s g.sheet.now.accepted)
 
   pub child_linked : Linked work n
   child_linked = stored_linked stored n x.below
@@ -102,7 +110,7 @@ module _ {s mask work bounds : List ℕ} {made latest n : ℕ} {c : Constraint} 
   child_small = good_small d c fits x.good
 
   pub carrier_few : bound_by c < 12
-  carrier_few = omega (arith, bound_below d c x.good, count_range s x.accepted)
+  carrier_few = omega (arith, bound_below d c x.good, count_range s g.sheet.now.accepted)
 
   abbrev bound_carrier : Carrier
   bound_carrier = carrier (bound_by c)
@@ -129,7 +137,7 @@ module _ {s mask work bounds : List ℕ} {made latest n : ℕ} {c : Constraint} 
   child_under : (p : List ℕ) → child_path d work n c ≡ Some p → IsLeast (problem d) (rules d) (bound_by c) own_task (c ∷ (node_at d work n).constraints) (Some p)
   unfolding problem
   child_under p q =
-      let short : d.horizon < barred = omega (arith, horizon_range s x.accepted) in
+      let short : d.horizon < barred = omega (arith, horizon_range s g.sheet.now.accepted) in
       let cs : List Constraint = c ∷ (node_at d work n).constraints in
       subst (IsLeast (problem d) (rules d) (bound_by c) own_task cs) q ((laws d fits.starts short).least (bound_by c) own_task cs (bound_below d c x.good) all_fit)
     where
@@ -149,16 +157,16 @@ module _ {s mask work bounds : List ℕ} {made latest n : ℕ} {c : Constraint} 
     task_is : j ≡ child_task d work n c
     task_is = (rw (ef, ei) at ej) ∙ ap task (task_read d work n (bound_by c) (bound_below d c x.good))
 
-    task_in : j.0 < count_of s
+    task_in : j.0 < d.count
     unfolding problem
     task_in = rw task_is (x.node.assigned.tasks (bound_by c) (bound_below d c x.good))
 
     pub child_ready : Ready s i j mask rs
     child_ready = record {
-      accepted = x.accepted;
+      accepted = g.sheet.now.accepted;
       carrier_in = rw ei (bound_below d c x.good);
       task_in = task_in;
-      masked = x.masked;
+      masked = g.masked;
       records = rw records_are (good_records_lem d own own_good own_few);
     }
 
@@ -197,99 +205,99 @@ one_found d j None r f e g = absurd (let z : ◌≡◌ {A = ℕ} 0 1 = cc in ome
 one_found d j (Some p) r f e g = (p, refl, cc)
 
 -- THE CHILD, once its path is looked for
-module _ {s mask work bounds : List ℕ} {made latest n : ℕ} {c : Constraint} (x : Branch s mask work bounds made latest n c) (after : List ℕ) (front : Front (read s).limit work after) where
-  module _ (r : Option ℕ) (e : r ≡ path_found (read s) (child_task (read s) work n c) (child_path (read s) work n c)) where
-    pub no_path_lem : ((f : ℕ) → r ≡ Some f → ⊥) → child_path (read s) work n c ≡ None
-    no_path_lem k = none_found (read s) (child_task (read s) work n c) (child_path (read s) work n c) r e k
+module _ {g : Given} {work : List ℕ} {made latest n : ℕ} {c : Constraint} (x : Branch g work made latest n c) (after : List ℕ) (front : Front (sheet_of g).limit work after) where
+  module _ (r : Option ℕ) (e : r ≡ path_found (sheet_of g) (child_task (sheet_of g) work n c) (child_path (sheet_of g) work n c)) where
+    pub no_path_lem : ((f : ℕ) → r ≡ Some f → ⊥) → child_path (sheet_of g) work n c ≡ None
+    no_path_lem k = none_found (sheet_of g) (child_task (sheet_of g) work n c) (child_path (sheet_of g) work n c) r e k
 
-    pub a_path : (f : ℕ) → r ≡ Some f → (p : List ℕ) × (child_path (read s) work n c ≡ Some p) × (f ≡ finish_of (read s) (child_task (read s) work n c) p)
-    a_path f g = one_found (read s) (child_task (read s) work n c) (child_path (read s) work n c) r f e g
+    pub a_path : (f : ℕ) → r ≡ Some f → (p : List ℕ) × (child_path (sheet_of g) work n c ≡ Some p) × (f ≡ finish_of (sheet_of g) (child_task (sheet_of g) work n c) p)
+    a_path f q = one_found (sheet_of g) (child_task (sheet_of g) work n c) (child_path (sheet_of g) work n c) r f e q
 
-  few : (read s).limit ≤ 4096
-  few = (limit_range s x.accepted).1
+  few : (sheet_of g).limit ≤ 4096
+  few = (limit_range g.sheet.now.bytes.now g.sheet.now.accepted).1
 
-  pub path_same : Same (read s) work after made
-  path_same = front_same (read s) few work after made latest front x.held.0 x.held.1
+  pub path_same : Same (sheet_of g) work after made
+  path_same = front_same (sheet_of g) few work after made latest front x.held.0 x.held.1
 
   abbrev outcome : ℕ → State (List ℕ) Constraint → Option (List ℕ) → Turn (List ℕ) Constraint
-  outcome bound st o = make_with (problem (read s)) (read s).limit bound (node_at (read s) work n) c o st
+  outcome bound st o = make_with (problem (sheet_of g)) (sheet_of g).limit bound (node_at (sheet_of g) work n) c o st
 
   -- without a path it is not made
-  pub not_made : child_path (read s) work n c ≡ None → (st : State (List ℕ) Constraint) (bound : ℕ) → Held (read s) work made latest st
-      → Grew (read s) after bound (grown made latest) (make_child (problem (read s)) (read s).limit bound (node_at (read s) work n) c st)
+  pub not_made : child_path (sheet_of g) work n c ≡ None → (st : State (List ℕ) Constraint) (bound : ℕ) → Held (sheet_of g) work made latest st
+      → Grew (sheet_of g) after bound (grown made latest) (make_child (problem (sheet_of g)) (sheet_of g).limit bound (node_at (sheet_of g) work n) c st)
   unfolding problem
-  not_made q st bound h = (st, ap (outcome bound st) q, front_held (read s) few work after made latest front st h)
+  not_made q st bound h = (st, ap (outcome bound st) q, front_held (sheet_of g) few work after made latest front st h)
 
-  module _ (p : List ℕ) (q : child_path (read s) work n c ≡ Some p) where
+  module _ (p : List ℕ) (q : child_path (sheet_of g) work n c ≡ Some p) where
     -- where all are made, the search is spent
-    pub none_left : made ≡ (read s).limit → (st : State (List ℕ) Constraint) (bound : ℕ) → Held (read s) work made latest st
-        → Grew (read s) after bound None (make_child (problem (read s)) (read s).limit bound (node_at (read s) work n) c st)
+    pub none_left : made ≡ (sheet_of g).limit → (st : State (List ℕ) Constraint) (bound : ℕ) → Held (sheet_of g) work made latest st
+        → Grew (sheet_of g) after bound None (make_child (problem (sheet_of g)) (sheet_of g).limit bound (node_at (sheet_of g) work n) c st)
     unfolding problem
     none_left e st bound h =
         ap (outcome bound st) q
-        ∙ ap (λ (b : Bool). add_if (read s).limit bound b (child_node (problem (read s)) (node_at (read s) work n) c p ∷ []) st) (le-ltb st.made (read s).limit (omega (arith, h.number)))
+        ∙ ap (λ (b : Bool). add_if (sheet_of g).limit bound b (child_node (problem (sheet_of g)) (node_at (sheet_of g) work n) c p ∷ []) st) (le-ltb st.made (sheet_of g).limit (omega (arith, h.number)))
 
-    walk : Mem p (walks (read s) (read s).horizon (start_of (read s) (carrier (bound_by c))))
-    walk = least_walk (read s) (carrier (bound_by c)) (child_task (read s) work n c) (c ∷ (node_at (read s) work n).constraints) p q
+    walk : Mem p (walks (sheet_of g) (sheet_of g).horizon (start_of (sheet_of g) (carrier (bound_by c))))
+    walk = least_walk (sheet_of g) (carrier (bound_by c)) (child_task (sheet_of g) work n c) (c ∷ (node_at (sheet_of g) work n).constraints) p q
 
-    pub path_long : length p ≡ (read s).horizon + 1
-    path_long = walk_long (read s) (accepted_fits s x.accepted) (bound_by c) (bound_below (read s) c x.good) p walk
+    pub path_long : length p ≡ (sheet_of g).horizon + 1
+    path_long = walk_long (sheet_of g) (accepted_fits g.sheet.now.bytes.now g.sheet.now.accepted) (bound_by c) (bound_below (sheet_of g) c x.good) p walk
 
-    pub finish_small : (f : ℕ) → f ≡ finish_of (read s) (child_task (read s) work n c) p → f ≤ 255
+    pub finish_small : (f : ℕ) → f ≡ finish_of (sheet_of g) (child_task (sheet_of g) work n c) p → f ≤ 255
     unfolding problem
-    finish_small f e = omega (arith, (child_under x p q).0.0.finishes.rests.0, horizon_range s x.accepted)
+    finish_small f e = omega (arith, (child_under x p q).0.0.finishes.rests.0, horizon_range g.sheet.now.bytes.now g.sheet.now.accepted)
 
     -- the words of the path
-    path_is : (last : ℕ) (out written : List ℕ) → last ≡ (read s).horizon → written ≡ path_written (child_path (read s) work n c) out → take (last + 1) written ≡ p
+    path_is : (last : ℕ) (out written : List ℕ) → last ≡ (sheet_of g).horizon → written ≡ path_written (child_path (sheet_of g) work n c) out → take (last + 1) written ≡ p
     unfolding path_written
     path_is last out written l e =
-        rw l (ap (take ((read s).horizon + 1)) (e ∙ ap (λ (o : Option (List ℕ)). path_written o out) q) ∙ take_at p (drop (length p) out) ((read s).horizon + 1) path_long)
+        rw l (ap (take ((sheet_of g).horizon + 1)) (e ∙ ap (λ (o : Option (List ℕ)). path_written o out) q) ∙ take_at p (drop (length p) out) ((sheet_of g).horizon + 1) path_long)
 
-    child_of : (f : ℕ) → f ≡ finish_of (read s) (child_task (read s) work n c) p → ChildOf (read s) (read s).limit after made n (bound_by c) c f p
+    child_of : (f : ℕ) → f ≡ finish_of (sheet_of g) (child_task (sheet_of g) work n c) p → ChildOf (sheet_of g) (sheet_of g).limit after made n (bound_by c) c f p
     child_of f e =
-        let same : fields_at after n ≡ fields_at work n = fields_front after work (read s).limit n (omega (arith, x.below, x.held.1.within)) front in
+        let same : fields_at after n ≡ fields_at work n = fields_front after work (sheet_of g).limit n (omega (arith, x.below, x.held.1.within)) front in
         record {
-          fits = accepted_fits s x.accepted;
-          stored = (front_held (read s) few work after made latest front x.held.0 x.held.1).stored;
+          fits = accepted_fits g.sheet.now.bytes.now g.sheet.now.accepted;
+          stored = (front_held (sheet_of g) few work after made latest front x.held.0 x.held.1).stored;
           binds = refl;
           good = x.good;
           walk = walk;
-          finish = rw same (e ∙ ap (λ (t : ℕ). finish_of (read s) (task t) p) (sym (task_read (read s) work n (bound_by c) (bound_below (read s) c x.good))));
+          finish = rw same (e ∙ ap (λ (t : ℕ). finish_of (sheet_of g) (task t) p) (sym (task_read (sheet_of g) work n (bound_by c) (bound_below (sheet_of g) c x.good))));
         }
 
-    module _ (final : List ℕ) (new : Added (read s) (read s).limit after final made (child_node (problem (read s)) (node_at (read s) after n) c p)) where
-      pub made_same : Same (read s) work final made
+    module _ (final : List ℕ) (new : Added (sheet_of g) (sheet_of g).limit after final made (child_node (problem (sheet_of g)) (node_at (sheet_of g) after n) c p)) where
+      pub made_same : Same (sheet_of g) work final made
       made_same = record { nodes = λ k h. new.nodes k h ∙ path_same.nodes k h; keys = λ k h. new.keys k h ∙ path_same.keys k h }
 
-      made_held : made < (read s).limit → (st : State (List ℕ) Constraint) → Held (read s) work made latest st
-          → Held (read s) final (made + 1) latest (added (child_node (problem (read s)) (node_at (read s) work n) c p ∷ []) st)
+      made_held : made < (sheet_of g).limit → (st : State (List ℕ) Constraint) → Held (sheet_of g) work made latest st
+          → Held (sheet_of g) final (made + 1) latest (added (child_node (problem (sheet_of g)) (node_at (sheet_of g) work n) c p ∷ []) st)
       made_held l st h =
-          let g = front_held (read s) few work after made latest front st h in
+          let f = front_held (sheet_of g) few work after made latest front st h in
           record {
             stored = new.stored;
-            opened = new.opened ∙ rw (g.opened, path_same.nodes n x.below);
+            opened = new.opened ∙ rw (f.opened, path_same.nodes n x.below);
             number = omega (arith, h.number);
-            slots = slots_kept_records (read s).count (table_of (read s)) after final latest st.rest (λ k b. new.records k (omega (arith, h.recent))) g.slots;
+            slots = slots_kept_records (sheet_of g).count (table_of (sheet_of g)) after final latest st.rest (λ k b. new.records k (omega (arith, h.recent))) f.slots;
             recent = omega (arith, h.recent);
             within = omega arith;
           }
 
-      pub child_made : made < (read s).limit → (st : State (List ℕ) Constraint) (bound : ℕ) → Held (read s) work made latest st
-          → Grew (read s) final bound (grown (made + 1) latest) (make_child (problem (read s)) (read s).limit bound (node_at (read s) work n) c st)
+      pub child_made : made < (sheet_of g).limit → (st : State (List ℕ) Constraint) (bound : ℕ) → Held (sheet_of g) work made latest st
+          → Grew (sheet_of g) final bound (grown (made + 1) latest) (make_child (problem (sheet_of g)) (sheet_of g).limit bound (node_at (sheet_of g) work n) c st)
       unfolding problem
       child_made l st bound h = (
-        added (child_node (problem (read s)) (node_at (read s) work n) c p ∷ []) st,
+        added (child_node (problem (sheet_of g)) (node_at (sheet_of g) work n) c p ∷ []) st,
         ap (outcome bound st) q
-            ∙ ap (λ (b : Bool). add_if (read s).limit bound b (child_node (problem (read s)) (node_at (read s) work n) c p ∷ []) st) (lt-ltb st.made (read s).limit (omega (arith, h.number))),
+            ∙ ap (λ (b : Bool). add_if (sheet_of g).limit bound b (child_node (problem (sheet_of g)) (node_at (sheet_of g) work n) c p ∷ []) st) (lt-ltb st.made (sheet_of g).limit (omega (arith, h.number))),
         made_held l st h,
       )
 
     -- made by the numbers of the sheet as they are read
-    pub new_child : (limit w last f : ℕ) (out written final : List ℕ) → limit ≡ (read s).limit → w ≡ (read s).width → last ≡ (read s).horizon
-        → f ≡ finish_of (read s) (child_task (read s) work n c) p → written ≡ path_written (child_path (read s) work n c) out
+    pub new_child : (limit w last f : ℕ) (out written final : List ℕ) → limit ≡ (sheet_of g).limit → w ≡ (sheet_of g).width → last ≡ (sheet_of g).horizon
+        → f ≡ finish_of (sheet_of g) (child_task (sheet_of g) work n c) p → written ≡ path_written (child_path (sheet_of g) work n c) out
         → ((d : Sheet) → d.width ≡ w → d.horizon ≡ last → ChildOf d limit after made n (bound_by c) c f (take (last + 1) written)
         → Added d limit after final made (child_node (problem d) (node_at d after n) c (take (last + 1) written)))
-        → Added (read s) (read s).limit after final made (child_node (problem (read s)) (node_at (read s) after n) c p)
+        → Added (sheet_of g) (sheet_of g).limit after final made (child_node (problem (sheet_of g)) (node_at (sheet_of g) after n) c p)
     new_child limit w last f out written final el ew eh e o make =
         let is = path_is last out written eh o in
-        rw (el, is) at (make (read s) (sym ew) (sym eh) (rw (el, is) (child_of f e)))
+        rw (el, is) at (make (sheet_of g) (sym ew) (sym eh) (rw (el, is) (child_of f e)))

@@ -7,7 +7,7 @@ use Rattle.std.specs.Prelude.{Option, None, Some}
 use native.Mathlib.Omega.{arith}
 use lib.ListN.{length}
 use lib.Dec.{ltb}
-use Rattle.deck.specs.Sheet.{Sheet, read}
+use Rattle.deck.specs.Sheet.{Sheet}
 use Rattle.deck.specs.Search.{Problem, Node, State, Turn, more, task_of, rest_after, root_of, child_node}
 use Rattle.deck.specs.Planner.{problem}
 use Rattle.deck.specs.declared.Constraint.{Constraint}
@@ -15,7 +15,9 @@ use Rattle.meaning.specs.Making.{and_then, add_if, make_root, make_with, make_ch
 use Rattle.nodes.specs.Nodes.{node_at}
 use Rattle.meaning.specs.Constraints.{InRange}
 use Rattle.expand.specs.Children.{Branch}
-use Rattle.expand.specs.Held.{Given, Held, Holding, Same, Grew, NodeAt, Nodes}
+use Rattle.expand.specs.declared.given.Given.{Given}
+use Rattle.expand.specs.Given.{sheet_of, Room}
+use Rattle.expand.specs.Held.{Held, Holding, Same, Grew, NodeAt, Nodes}
 use Rattle.expand.specs.declared.Made.{Made}
 
 -- WHERE A STEP DOES NOT END THE SEARCH, no fewer nodes are made after it
@@ -87,41 +89,35 @@ module _ {d : Sheet} {work after : List ℕ} {made latest : ℕ} (m : Made) (h :
   pub fewer_root : RootStep d work after made latest n (Some m) → made ≤ m.nodes
   fewer_root step = (root_held step).1
 
-pub fewer_child : {s mask work bounds after : List ℕ} {made latest n : ℕ} {c : Constraint} (m : Made) → Branch s mask work bounds made latest n c → ChildStep (read s) work after made latest n c (Some m) → made ≤ m.nodes
+pub fewer_child : {g : Given} {work after : List ℕ} {made latest n : ℕ} {c : Constraint} (m : Made) → Branch g work made latest n c → ChildStep (sheet_of g) work after made latest n c (Some m) → made ≤ m.nodes
 fewer_child {n = n} {c = c} m x step = (child_held m x.held n c step).1
 
 pub same_on : {d : Sheet} {work first second : List ℕ} {made k : ℕ} → made ≤ k → Same d work first made → Same d first second k → Same d work second made
 same_on m p q = record { nodes = λ j h. q.nodes j (omega arith) ∙ p.nodes j h; keys = λ j h. q.keys j (omega arith) ∙ p.keys j h }
 
 -- THE CHILDREN: what each is made of, the first after the root, the second after the first
-pub first_branch : {s mask table work bounds after : List ℕ} {made latest n : ℕ} {c : Constraint} (m : Made) → Given s mask table work bounds → n < made → Holding (read s) work made latest → NodeAt (read s) work n
-    → RootStep (read s) work after made latest n (Some m) → Same (read s) work after made → length after ≡ length work → InRange (read s) c → Branch s mask after bounds m.nodes m.latest n c
-first_branch {n = n} m given b h o step same long good =
-    let g = root_held m h n step in
+pub first_branch : {g : Given} {work after : List ℕ} {made latest n : ℕ} {c : Constraint} (m : Made) → Room g work → n < made → Holding (sheet_of g) work made latest → NodeAt (sheet_of g) work n
+    → RootStep (sheet_of g) work after made latest n (Some m) → Same (sheet_of g) work after made → length after ≡ length work → InRange (sheet_of g) c → Branch g after m.nodes m.latest n c
+first_branch {n = n} m room b h o step same long good =
+    let k = root_held m h n step in
     record {
-      accepted = given.accepted;
-      masked = given.masked;
-      room = rw long given.room;
-      held = g.0;
-      below = omega (arith, g.1);
+      room = rw long room;
+      held = k.0;
+      below = omega (arith, k.1);
       node = rw (same.nodes n b) o;
       good = good;
-      bounded = given.bounded;
     }
 
-pub second_branch : {s mask work bounds after : List ℕ} {made latest n : ℕ} {c b : Constraint} (m : Made) → Branch s mask work bounds made latest n c
-    → ChildStep (read s) work after made latest n c (Some m) → Same (read s) work after made → length after ≡ length work → InRange (read s) b → Branch s mask after bounds m.nodes m.latest n b
+pub second_branch : {g : Given} {work after : List ℕ} {made latest n : ℕ} {c b : Constraint} (m : Made) → Branch g work made latest n c
+    → ChildStep (sheet_of g) work after made latest n c (Some m) → Same (sheet_of g) work after made → length after ≡ length work → InRange (sheet_of g) b → Branch g after m.nodes m.latest n b
 second_branch {n = n} {c = c} m x step same long good =
-    let g = child_held m x.held n c step in
+    let k = child_held m x.held n c step in
     record {
-      accepted = x.accepted;
-      masked = x.masked;
       room = rw long x.room;
-      held = g.0;
-      below = omega (arith, x.below, g.1);
+      held = k.0;
+      below = omega (arith, x.below, k.1);
       node = rw (same.nodes n x.below) x.node;
       good = good;
-      bounded = x.bounded;
     }
 
 -- THE WHOLE: of node n of `work`, by the root, and then by the children

@@ -10,7 +10,7 @@ use native.Mathlib.Omega.{arith}
 use lib.ListN.{length, get_or-eq_default}
 use borrow.Author.Tests.{lt-ltb, le-ltb}
 use Rattle.std.specs.Prelude.{Option, None, Some}
-use Rattle.deck.specs.Sheet.{Sheet, read}
+use Rattle.deck.specs.Sheet.{Sheet}
 use Rattle.deck.specs.Assignments.{table_of}
 use Rattle.deck.specs.Search.{State, Turn, root_of, rest_after}
 use Rattle.deck.specs.Planner.{problem}
@@ -31,7 +31,9 @@ use Rattle.roots.specs.declared.Choice.{Choice}
 use Rattle.roots.proofs.Chosen.{live_slot}
 use Rattle.roots.proofs.Begun.{begun_stored, begun_nodes, begun_opened}
 use Rattle.roots.proofs.Made.{nothing_left}
-use Rattle.expand.specs.Held.{Given, Nodes, Held, Begun, Same, Grew, grown}
+use Rattle.expand.specs.declared.given.Given.{Given}
+use Rattle.expand.specs.Given.{sheet_of, Room}
+use Rattle.expand.specs.Held.{Nodes, Held, Begun, Same, Grew, grown}
 use Rattle.expand.proofs.RootPaths.{room_keys}
 
 -- THE DEFINITION'S STEP, by whether the node is a root and what remains
@@ -70,18 +72,21 @@ pub is_root : (d : Sheet) (work : List ℕ) (n : ℕ) (r : Bool) → r ≡ root_
 is_root d work n r e t = sym (root_read d work n) ∙ sym e ∙ t
 
 -- THE SLOTS, by the numbers that the code has
-module _ {s mask table work bounds : List ℕ} (g : Given s mask table work bounds) {made latest : ℕ} {st : State (List ℕ) Constraint} (H : Held (read s) work made latest st) where
-  pub latest_room : 512 * latest ≤ length work
-  latest_room = omega (arith, room_keys g, H.recent, H.within)
+module _ (g : Given) {work : List ℕ} (room : Room g work) {made latest : ℕ} {st : State (List ℕ) Constraint} (H : Held (sheet_of g) work made latest st) where
+  abbrev table : List ℕ
+  table = g.table.now
 
-  module _ {m : ℕ} (em : m ≡ (read s).count) where
+  pub latest_room : 512 * latest ≤ length work
+  latest_room = omega (arith, room_keys g work room, H.recent, H.within)
+
+  module _ {m : ℕ} (em : m ≡ (sheet_of g).count) where
     pub few_carriers : m ≤ 12
-    few_carriers = omega (arith, (accepted_fits s g.accepted).count)
+    few_carriers = omega (arith, (accepted_fits g.sheet.now.bytes.now g.sheet.now.accepted).count)
 
     pub slots_asked : SlotsHold m (copied m table) work latest st.rest
     slots_asked =
         subst (λ (x : ℕ). SlotsHold x (copied x table) work latest st.rest) (sym em)
-        (subst (λ (t : List ℕ). SlotsHold (read s).count t work latest st.rest) (sym g.table_is) H.slots)
+        (subst (λ (t : List ℕ). SlotsHold (sheet_of g).count t work latest st.rest) (sym g.table_is) H.slots)
 
     -- without a slot no assignment remains
     pub without_slot : (r : Option Choice) → FirstSlot m work latest r → r ≡ None → st.rest ≡ []
@@ -108,33 +113,33 @@ module _ {s mask table work bounds : List ℕ} (g : Given s mask table work boun
         go (a ∷ others) i = (a, others, refl)
 
     -- what is taken from the slots, by the sheet's own table
-    taken_is : (mid : List ℕ) (tasks : List ℕ) → NextTaken m (copied m table) mid (made + 1) st.rest tasks → NextTaken (read s).count (table_of (read s)) mid (made + 1) st.rest tasks
+    taken_is : (mid : List ℕ) (tasks : List ℕ) → NextTaken m (copied m table) mid (made + 1) st.rest tasks → NextTaken (sheet_of g).count (table_of (sheet_of g)) mid (made + 1) st.rest tasks
     taken_is mid tasks N =
-        subst (λ (t : List ℕ). NextTaken (read s).count t mid (made + 1) st.rest tasks) g.table_is
+        subst (λ (t : List ℕ). NextTaken (sheet_of g).count t mid (made + 1) st.rest tasks) g.table_is
         (subst (λ (x : ℕ). NextTaken x (copied x table) mid (made + 1) st.rest tasks) em N)
 
     -- THE RECORD OF THE NEXT ROOT IS BEGUN
-    module _ (less : made < (read s).limit) {mid tasks : List ℕ} (B : RootBegun work mid made tasks) (N : NextTaken m (copied m table) mid (made + 1) st.rest tasks) where
-      small : (a : List ℕ) → Assignment (read s).count a → (k : ℕ) → a at k < 256
+    module _ (less : made < (sheet_of g).limit) {mid tasks : List ℕ} (B : RootBegun work mid made tasks) (N : NextTaken m (copied m table) mid (made + 1) st.rest tasks) where
+      small : (a : List ℕ) → Assignment (sheet_of g).count a → (k : ℕ) → a at k < 256
       small a h k =
-          ⊎_elim (λ l. omega (arith, h.tasks k l, few_carriers)) (λ l. rw (get_or-eq_default a 0 {n = k} (omega (arith, h.as_many))) (omega arith)) (lower k (read s).count)
+          ⊎_elim (λ l. omega (arith, h.tasks k l, few_carriers)) (λ l. rw (get_or-eq_default a 0 {n = k} (omega (arith, h.as_many))) (omega arith)) (lower k (sheet_of g).count)
 
-      pub next_begun : (a : List ℕ) × (others : List (List ℕ)) × (st.rest ≡ a ∷ others) × Begun (read s) mid made a 0 (held_state st.opened made others)
+      pub next_begun : (a : List ℕ) × (others : List (List ℕ)) × (st.rest ≡ a ∷ others) × Begun (sheet_of g) mid made a 0 (held_state st.opened made others)
       next_begun =
           let t = taken_is mid tasks N in (
             t.next,
             t.others,
             t.first,
             record {
-              stored = begun_stored (read s) (read s).limit work mid made tasks H.stored less B;
-              opened = begun_opened (read s) (read s).limit work mid made tasks H.stored less B ∙ H.opened;
+              stored = begun_stored (sheet_of g) (sheet_of g).limit work mid made tasks H.stored less B;
+              opened = begun_opened (sheet_of g) (sheet_of g).limit work mid made tasks H.stored less B ∙ H.opened;
               number = refl;
               slots = t.hold;
               within = less;
               unbarred = t.unbarred;
-              root = B.root (read s) t.next t.unbarred.0.as_many (small t.next t.unbarred.0) t.list;
+              root = B.root (sheet_of g) t.next t.unbarred.0.as_many (small t.next t.unbarred.0) t.list;
             },
           )
 
-      pub next_same : Same (read s) work mid made
-      next_same = record { nodes = begun_nodes (read s) (read s).limit work mid made tasks H.stored less B; keys = λ k h. B.keys (read s).limit k less }
+      pub next_same : Same (sheet_of g) work mid made
+      next_same = record { nodes = begun_nodes (sheet_of g) (sheet_of g).limit work mid made tasks H.stored less B; keys = λ k h. B.keys (sheet_of g).limit k less }

@@ -9,7 +9,7 @@ use native.Mathlib.Omega.{arith}
 use lib.ListN.{length, get_or, take, drop, replicate, get_or-append}
 use lib.Seq.{take_at}
 use lib.Dec.{T}
-use Rattle.deck.specs.Sheet.{Sheet, read, count_of, carrier, task}
+use Rattle.deck.specs.Sheet.{Sheet, carrier, task}
 use Rattle.deck.specs.Paths.{least_path, finish_of}
 use Rattle.deck.specs.Assignments.{barred, entry_at, entry_of, table_of}
 use Rattle.deck.specs.Calls.{workspace_for, constraints_of, good_records, path_found, path_written}
@@ -36,18 +36,20 @@ use Rattle.nodes.proofs.Grid.{least_walk, walk_long}
 use Rattle.nodes.proofs.Readers.{accepted_fits}
 use Rattle.roots.proofs.Begun.{slots_kept_records, slots_kept_path}
 use Rattle.scratch.specs.Front.{Front}
-use Rattle.expand.specs.Held.{Given, Nodes, Held, Begun, Same}
+use Rattle.expand.specs.declared.given.Given.{Given}
+use Rattle.expand.specs.Given.{sheet_of, Room}
+use Rattle.expand.specs.Held.{Nodes, Held, Begun, Same}
 
 -- ROOM for the records and the keys
-module _ {s mask table work bounds : List ℕ} (g : Given s mask table work bounds) where
-  pub room_keys : 512 * (read s).limit + 4096 ≤ length work
+pub limit_low : (g : Given) → (sheet_of g).limit ≤ 4096
+limit_low g = (limit_range g.sheet.now.bytes.now g.sheet.now.accepted).1
+
+module _ (g : Given) (work : List ℕ) (room : Room g work) where
+  pub room_keys : 512 * (sheet_of g).limit + 4096 ≤ length work
   unfolding workspace_for
-  room_keys = omega (arith, g.room)
+  room_keys = omega (arith, room)
 
-  pub limit_low : (read s).limit ≤ 4096
-  limit_low = (limit_range s g.accepted).1
-
-  pub room_record : (n : ℕ) → n < (read s).limit → 512 * n + 512 ≤ length work
+  pub room_record : (n : ℕ) → n < (sheet_of g).limit → 512 * n + 512 ≤ length work
   room_record n h = omega (arith, room_keys)
 
 -- no records, no constraints
@@ -117,16 +119,25 @@ module _ {d : Sheet} {mid after : List ℕ} {n : ℕ} {a : List ℕ} {i : ℕ} {
   path_same = record { nodes = kept_nodes d d.limit mid after n B.stored path_alikes path_keep; keys = path_keep }
 
 -- ONE PATH OF A ROOT
-module _ {s mask table work bounds : List ℕ} {n : ℕ} (i : Carrier) {a : List ℕ} {st : State (List ℕ) Constraint} (g : Given s mask table work bounds) (b : i.0 < count_of s)
-    (B : Begun (read s) work n a i.0 st) where
+module _ {n : ℕ} (i : Carrier) {a : List ℕ} {st : State (List ℕ) Constraint} (g : Given) {work : List ℕ} (room : Room g work) (b : i.0 < (sheet_of g).count)
+    (B : Begun (sheet_of g) work n a i.0 st) where
+  abbrev s : List ℕ
+  s = g.sheet.now.bytes.now
+
+  abbrev mask : List ℕ
+  mask = g.mask.now
+
+  abbrev table : List ℕ
+  table = g.table.now
+
   abbrev d : Sheet
-  d = read s
+  d = sheet_of g
 
   abbrev j : Task
   j = task (get_or a i.0 0)
 
   few : i.0 < 12
-  few = omega (arith, (accepted_fits s g.accepted).count)
+  few = omega (arith, (accepted_fits s g.sheet.now.accepted).count)
 
   low : get_or a i.0 0 < d.count
   low = B.unbarred.0.tasks i.0 b
@@ -152,7 +163,7 @@ module _ {s mask table work bounds : List ℕ} {n : ℕ} (i : Carrier) {a : List
 
   finish_low : (p : List ℕ) → least_path d i j [] ≡ Some p → finish_of d j p ≤ 255
   finish_low p e =
-      let f = accepted_fits s g.accepted in
+      let f = accepted_fits s g.sheet.now.accepted in
       let m = subst (LeastMeant d i j []) e (least_path_meant d i j [] (f.starts i.0 b)) in
       omega (arith, m.under.path.finishes.rests.0, f.horizon)
 
@@ -165,7 +176,7 @@ module _ {s mask table work bounds : List ℕ} {n : ℕ} (i : Carrier) {a : List
     task_in = subst (λ (t : Task). t.0 < d.count) (sym is_task) low
 
     pub root_ready : Ready s i k mask []
-    root_ready = record { accepted = g.accepted; carrier_in = b; task_in = task_in; masked = g.masked; records = none_good d }
+    root_ready = record { accepted = g.sheet.now.accepted; carrier_in = b; task_in = task_in; masked = g.masked; records = none_good d }
 
     pub root_bound : {x : ℕ} → x ≡ cell table i.0 k.0 → NoEarlier d i k (constraints_of []) x
     unfolding entry_of
@@ -197,7 +208,7 @@ module _ {s mask table work bounds : List ℕ} {n : ℕ} (i : Carrier) {a : List
         finish_small = omega (arith, finish_is, finish_low p has_path.1)
 
     long : length p ≡ d.horizon + 1
-    long = walk_long d (accepted_fits s g.accepted) i.0 b p (least_walk d i j [] p has_path.1)
+    long = walk_long d (accepted_fits s g.sheet.now.accepted) i.0 b p (least_walk d i j [] p has_path.1)
 
     -- and writes it
     module _ {out : List ℕ} (before : List ℕ) (written : out ≡ path_written (least_path d i k (constraints_of [])) before) {last : ℕ} (el : last ≡ d.horizon) where
@@ -221,15 +232,12 @@ module _ {s mask table work bounds : List ℕ} {n : ℕ} (i : Carrier) {a : List
 
       pub root_path_begun : Begun d after n a (i.0 + 1) st
       root_path_begun =
-          path_begun at_mid f p wrote_path (accepted_fits s g.accepted) (omega (arith, room_record g n B.within)) b has_path.1 (finish_is answer is)
+          path_begun at_mid f p wrote_path (accepted_fits s g.sheet.now.accepted) (omega (arith, room_record g work room n B.within)) b has_path.1 (finish_is answer is)
 
       pub root_path_same : Same d work after n
       root_path_same = same_then d work mid after n (front_same mid (limit_low g) front B) (path_same at_mid f p wrote_path)
 
 -- THE ROOT IS OPENED
-pub given_kept : {s mask table work bounds after : List ℕ} → Given s mask table work bounds → length after ≡ length work → Given s mask table after bounds
-given_kept g e = record { accepted = g.accepted; masked = g.masked; table_is = g.table_is; room = rw e g.room; bounded = g.bounded }
-
 module _ {d : Sheet} (fits : Fits d) {work after : List ℕ} {made : ℕ} {a : List ℕ} {i : ℕ} {st : State (List ℕ) Constraint} (B : Begun d work made a i st) (ei : i ≡ d.count)
     {limit : ℕ} (el : limit ≡ d.limit) (opens : (e : Sheet) (b : List ℕ) → Fits e → Stored e limit work made → RootSoFar e work made b e.count → Added e limit work after made (root_of (problem e) b))
     (kept : (k : ℕ) → k < limit → fields_at after k ≡ fields_at work k) where

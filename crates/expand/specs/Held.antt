@@ -1,30 +1,18 @@
 -- What the workspace holds of the search's state, and what making nodes comes to. Assumes nothing.
-use Rattle.std.specs.Prelude.{ℕ, ◌+◌, ◌<◌, ◌≤◌, ◌≡◌, List, length, Option, None, Some}
-use Rattle.deck.specs.Sheet.{Sheet, read, cause}
+use Rattle.std.specs.Prelude.{ℕ, ◌+◌, ◌<◌, ◌≤◌, ◌≡◌, List, Option, None, Some}
+use Rattle.deck.specs.Sheet.{Sheet}
 use Rattle.deck.specs.Assignments.{table_of}
 use Rattle.deck.specs.Search.{Node, State, Turn, done, more, spent}
 use Rattle.deck.specs.Planner.{problem}
-use Rattle.deck.specs.Calls.{workspace_for}
 use Rattle.deck.specs.declared.Constraint.{Constraint}
 use Rattle.meaning.specs.Meaning.{Unbarred}
-use Rattle.bars.specs.Padded.{MaskOf}
-use Rattle.prices.specs.Square.{copied}
 use Rattle.records.specs.Record.{key_at}
 use Rattle.nodes.specs.Nodes.{node_at, opened_at}
 use Rattle.nodes.specs.Stored.{Stored, RootSoFar}
 use Rattle.roots.specs.Tournament.{SlotsHold}
 use Rattle.optimal.specs.Nodes.{IsNode}
 use Rattle.optimal.specs.Deck.{rules}
-use Rattle.scratch.specs.Bounded.{Bounded}
 use Rattle.expand.specs.declared.Made.{Made}
-
--- an accepted sheet, its mask, the working copy of its table, a workspace with room, and the lower bounds of its tasks
-pub record Given (s mask table work bounds : List ℕ) : Type 0 where
-  pub accepted : cause s ≡ None
-  pub masked : MaskOf (read s) mask
-  pub table_is : copied (read s).count table ≡ table_of (read s)
-  pub room : workspace_for (read s) ≤ length work
-  pub bounded : Bounded (read s) bounds
 
 abbrev pub Nodes : Type 0
 Nodes = List (Node (List ℕ) Constraint)

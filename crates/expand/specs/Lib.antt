@@ -1,2 +1,4 @@
+pub mod Starts
+pub mod Given
 pub mod Held
 pub mod Children

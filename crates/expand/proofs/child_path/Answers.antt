@@ -18,15 +18,15 @@ task-j-requires c = omega (arith, c.bound_by-i.ensures, carrier_few c.requires.b
 pub finish-bound-requires : goal.finish-bound-requires
 finish-bound-requires c = omega (arith, c.bound_by-i.ensures, carrier_few c.requires.by_index.2)
 
-pub least-requires : goal.least-requires
-least-requires c =
-    let x = c.requires.by_index.2 in (
-      child_ready x c.bound_by-i.ensures c.constraints.ensures c.words.ensures c.at-parent.ensures c.task-j.ensures,
-      child_later x c.bound_by-i.ensures c.constraints.ensures c.words.ensures c.at-parent.ensures c.task-j.ensures c.finish-bound.ensures,
-      x.room,
-      c.requires.room,
-      x.bounded,
-    )
+pub invariant_of-errand : goal.invariant_of-errand
+invariant_of-errand c = record { ready = child_ready c.requires.by_index.2 c.bound_by-i.ensures c.constraints.ensures c.words.ensures c.at-parent.ensures c.task-j.ensures }
+
+pub least-requires-clause-not_before : goal.least-requires-clause-not_before
+least-requires-clause-not_before c =
+    child_later c.requires.by_index.2 c.bound_by-i.ensures c.constraints.ensures c.words.ensures c.at-parent.ensures c.task-j.ensures c.finish-bound.ensures
+
+pub least-requires-clause-workspace : goal.least-requires-clause-workspace
+least-requires-clause-workspace c = c.requires.by_index.2.room
 
 pub returns-clause-answer : goal.returns-clause-answer
 returns-clause-answer c =

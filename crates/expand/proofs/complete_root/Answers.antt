@@ -1,8 +1,8 @@
--- `search::expand::complete_root` meets its contract. The loop's invariant: of whatever root was begun, the first i paths are written;
+-- `complete_root` meets its contract. The loop's invariant: of whatever root was begun, the first i paths are written;
 -- nodes made before are as they were. Assumes nothing.
 use mathlib.Core.Path.{◌≡◌}
 use native.Mathlib.Omega.{arith}
-use Rattle.deck.specs.Sheet.{read}
+use Rattle.expand.specs.Given.{sheet_of}
 use Rattle.nodes.proofs.Readers.{accepted_fits}
 use Rattle.expand.proofs.RootPaths.{room_keys, limit_low, same_then, root_held, root_held_same}
 use Rattle.expand.proofs.complete_root.Goals as goal
@@ -18,7 +18,7 @@ loop-i-preserved c =
     let r = c.root_path in (
       omega arith,
       omega (arith, r.auto.work, v.1),
-      same_then (read c.args.s.now) c.args.work.now c.loop-i.work r.new.work c.args.made v.2 r.ensures.same,
+      same_then (sheet_of c.args.given.now) c.args.work.now c.loop-i.work r.new.work c.args.made v.2 r.ensures.same,
       λ a st b. r.ensures.begun a st (v.3 a st b),
     )
 
@@ -27,7 +27,7 @@ open_root-requires c =
     let q = c.requires in
     let e = c.limit.ensures.value in (
       omega (arith, e, q.by_index.2.within),
-      (omega (arith, e, limit_low q.given), omega (arith, e, room_keys q.given, c.loop-i.invariant.1)),
+      (omega (arith, e, limit_low c.args.given.now), omega (arith, e, room_keys c.args.given.now c.args.work.now q.room, c.loop-i.invariant.1)),
     )
 
 pub returns-clause-held : goal.returns-clause-held
@@ -35,8 +35,8 @@ returns-clause-held c =
     let q = c.requires in
     let l = c.loop-i in
     let o = c.open_root in
-    let f = accepted_fits c.args.s.now q.given.accepted in
-    let full : l.i ≡ (read c.args.s.now).count = omega (arith, c.count-m.ensures.value, c.loop-i-test.false) in
+    let f = accepted_fits c.args.given.now.sheet.now.bytes.now c.args.given.now.sheet.now.accepted in
+    let full : l.i ≡ (sheet_of c.args.given.now).count = omega (arith, c.count-i-end.ensures.value, c.loop-i-test.false) in
     λ a st b. root_held f (l.invariant.3 a st b) full c.limit.ensures.value o.ensures.added o.ensures.by_index
 
 pub returns-clause-same : goal.returns-clause-same
@@ -44,6 +44,6 @@ returns-clause-same c =
     let q = c.requires in
     let l = c.loop-i in
     let o = c.open_root in
-    let f = accepted_fits c.args.s.now q.given.accepted in
-    let full : l.i ≡ (read c.args.s.now).count = omega (arith, c.count-m.ensures.value, c.loop-i-test.false) in same_then (read c.args.s.now) c.args.work.now l.work o.new.work c.args.made l.invariant.2
+    let f = accepted_fits c.args.given.now.sheet.now.bytes.now c.args.given.now.sheet.now.accepted in
+    let full : l.i ≡ (sheet_of c.args.given.now).count = omega (arith, c.count-i-end.ensures.value, c.loop-i-test.false) in same_then (sheet_of c.args.given.now) c.args.work.now l.work o.new.work c.args.made l.invariant.2
     (root_held_same f (l.invariant.3 q.by_index.0 q.by_index.1 q.by_index.2) full c.limit.ensures.value o.ensures.added o.ensures.by_index)

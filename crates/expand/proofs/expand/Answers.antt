@@ -1,6 +1,6 @@
 -- `expand` meets its contract: the next root, the first child, the second child. Assumes nothing.
 use native.Mathlib.Omega.{arith}
-use Rattle.deck.specs.Sheet.{read}
+use Rattle.expand.specs.Given.{sheet_of}
 use Rattle.expand.proofs.Expansion.{first_branch, second_branch, fewer_root, fewer_child, same_on, made_third}
 use Rattle.expand.proofs.expand.Goals as goal
 
@@ -8,19 +8,19 @@ pub make_child-requires : goal.make_child-requires
 make_child-requires c =
     let q = c.requires in
     let root = c.in_ok-rooted in
-    first_branch root.rooted q.given.0 q.given.1 q.given.2 q.node_at.0 root.ensures.grew root.ensures.same c.next_root.auto.work q.node_at.1
+    first_branch {g = c.args.given.now} root.rooted q.room q.below q.held q.node_at.0 root.ensures.grew root.ensures.same c.next_root.auto.work q.node_at.1
 
 pub returns-in_err-once-clause-same : goal.returns-in_err-once-clause-same
 returns-in_err-once-clause-same c =
     let root = c.in_ok-rooted in
-    same_on (fewer_root root.rooted c.requires.given.2 c.args.n root.ensures.grew) root.ensures.same c.in_err-once.ensures.same
+    same_on (fewer_root root.rooted c.requires.held c.args.n root.ensures.grew) root.ensures.same c.in_err-once.ensures.same
 
 pub make_child-requires-2 : goal.make_child-requires-2
 make_child-requires-2 c =
     let q = c.requires in
     let root = c.in_ok-rooted in
     let one = c.in_ok-once in
-    let x = first_branch root.rooted q.given.0 q.given.1 q.given.2 q.node_at.0 root.ensures.grew root.ensures.same c.next_root.auto.work q.node_at.1 in
+    let x = first_branch {g = c.args.given.now} root.rooted q.room q.below q.held q.node_at.0 root.ensures.grew root.ensures.same c.next_root.auto.work q.node_at.1 in
     second_branch one.once x one.ensures.grew one.ensures.same c.make_child.auto.work q.node_at.2
 
 pub returns-clause-grew : goal.returns-clause-grew
@@ -28,7 +28,7 @@ returns-clause-grew c =
     let a = c.args in
     let root = c.in_ok-rooted in
     let one = c.in_ok-once in
-    made_third (read a.s.now) a.work.now _ a.made.nodes a.made.latest a.n c.requires.given.1 a.first a.second root.rooted root.ensures.grew root.ensures.same
+    made_third (sheet_of a.given.now) a.work.now _ a.made.nodes a.made.latest a.n c.requires.below a.first a.second root.rooted root.ensures.grew root.ensures.same
     one.once one.ensures.grew one.ensures.same _ _ c.make_child-2.ensures.grew
 
 pub returns-clause-same : goal.returns-clause-same
@@ -36,7 +36,7 @@ returns-clause-same c =
     let q = c.requires in
     let root = c.in_ok-rooted in
     let one = c.in_ok-once in
-    let x = first_branch root.rooted q.given.0 q.given.1 q.given.2 q.node_at.0 root.ensures.grew root.ensures.same c.next_root.auto.work q.node_at.1 in
-    let k = fewer_root root.rooted q.given.2 c.args.n root.ensures.grew in
+    let x = first_branch {g = c.args.given.now} root.rooted q.room q.below q.held q.node_at.0 root.ensures.grew root.ensures.same c.next_root.auto.work q.node_at.1 in
+    let k = fewer_root root.rooted q.held c.args.n root.ensures.grew in
     let k2 = fewer_child one.once x one.ensures.grew in
     same_on (omega (arith, k, k2)) (same_on k root.ensures.same one.ensures.same) c.make_child-2.ensures.same

@@ -36,12 +36,12 @@ make_child-requires c =
         omega (arith, x.held.1.within, word.ensures.value),
         carrier_few x,
         child_small x,
-        (omega (arith, limit_range _ x.accepted, word.ensures.value), omega (arith, records_room _ _ x.room, word.ensures.value, path.auto.work)),
+        (omega (arith, limit_range _ c.args.given.now.sheet.now.accepted, word.ensures.value), omega (arith, records_room _ _ x.room, word.ensures.value, path.auto.work)),
       );
       finish_bound = (
         omega (arith, finish_small x _ path.ensures.front found.0 found.1 _ found.2),
-        length-take-le _ _ (omega (arith, c.horizon-last.ensures.upper_bound, path.auto.out)),
-        omega (arith, width_range _ x.accepted, c.width-w.ensures.value),
+        length-take-le _ _ (omega (arith, c.horizon-last.ensures.range, path.auto.out)),
+        omega (arith, width_range _ c.args.given.now.sheet.now.accepted, c.width-w.ensures.value),
       );
     }
 
