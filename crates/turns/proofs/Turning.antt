@@ -35,8 +35,9 @@ use Rattle.nodes.specs.declared.Open.{Open}
 use Rattle.nodes.proofs.Kept.{close_stored, close_nodes, close_records}
 use Rattle.nodes.proofs.Readers.{accepted_fits, paths_read, tasks_read}
 use Rattle.roots.proofs.Begun.{slots_kept_records}
-use Rattle.expand.specs.Held.{Given, Held, NodeAt, Nodes}
-use Rattle.turns.specs.Turns.{StartsOf, Turning, TurnedTo}
+use Rattle.expand.specs.Starts.{StartsOf}
+use Rattle.expand.specs.Held.{Held, NodeAt, Nodes}
+use Rattle.turns.specs.Turns.{Turning, TurnedTo}
 use Rattle.turns.specs.declared.End.{End}
 use Rattle.turns.specs.declared.End.TheVariants.{Plan, NoPlan}
 use Rattle.expand.specs.declared.Made.{Made}
@@ -176,10 +177,6 @@ module _ (s : List ℕ) (ok : cause s ≡ None) where
           ∙ sym (one_at_a_time (problem (read s)) (read s).limit cheapest st choice (sides c) (omega (arith, held.number, held.within)))
           ∙ rw (same_node, taken.0, held.number)
 
--- a workspace as long as another has room too
-pub given_kept : (s mask t work bounds after : List ℕ) → Given s mask t work bounds → length after ≡ length work → Given s mask t after bounds
-given_kept s mask t work bounds after g e = record { accepted = g.accepted; masked = g.masked; table_is = g.table_is; room = rw e g.room; bounded = g.bounded }
-
 -- the least keys of the blocks, by the node limit as it is read
 pub lows_limit : {limit made : ℕ} {work lows : List ℕ} (n : ℕ) → limit ≡ n → Lows limit work made lows → Lows n work made lows
 lows_limit {limit} {made} {work} {lows} n e w = subst (λ x. Lows x work made lows) e w
@@ -211,8 +208,8 @@ module _ (s : List ℕ) (ok : cause s ≡ None) {work : List ℕ} {made latest k
         }
 
   module _ {closed : List ℕ} {node : Open} (took : Took s work closed made node) (room : workspace_for (read s) ≤ length work) where
-    pub took_given : {mask t bounds : List ℕ} → Given s mask t work bounds → Given s mask t closed bounds
-    took_given {mask} {t} {bounds} g = given_kept s mask t work bounds closed g (ap length took.is ∙ length-set work (512 * (read s).limit + node.n) closed_key)
+    pub took_room : workspace_for (read s) ≤ length closed
+    took_room = rw (ap length took.is ∙ length-set work (512 * (read s).limit + node.n) closed_key) room
 
     pub took_held : Held (read s) closed made latest (record { opened = opened_at (read s) (read s).limit closed made; made = made; rest = st.rest })
     took_held = rw took.is (closed_held s ok work made latest k st turning (room_of s ok work room) node took.inside took.taken)

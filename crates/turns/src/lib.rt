@@ -1,8 +1,7 @@
 // The turns of the search on the workspace.
 #![tactic(auto)]
 
-ghost use Rattle.std.specs.Prelude.{◌≡◌, List, [], ◌∷◌, ℕ, ◌<◌, length, None};
-ghost use Rattle.deck.specs.Sheet.{read, count_of, cause};
+ghost use Rattle.std.specs.Prelude.{◌≡◌, List, [], ◌∷◌, ℕ, ◌<◌};
 ghost use Rattle.deck.specs.Search.{State, root_of, rest_after, turn, cheapest};
 ghost use Rattle.deck.specs.Planner.{problem, sides, plan_for};
 ghost use Rattle.deck.specs.Collisions.{first_collision};
@@ -11,11 +10,12 @@ ghost use Rattle.meaning.specs.Making.{make_each};
 ghost use Rattle.records.specs.Record.{HasRecord};
 ghost use Rattle.nodes.specs.Nodes.{node_at, Lows};
 ghost use Rattle.meaning.specs.Constraints.{InRange};
-ghost use Rattle.expand.specs.Held.{Given, Held, Holding, NodeAt, Nodes, Same};
-ghost use Rattle.turns.specs.Turns.{StartsOf, Turning, TurnedTo, EndedWith};
+ghost use Rattle.expand.specs.Given.{sheet_of, Room};
+ghost use Rattle.expand.specs.Held.{Held, Holding, NodeAt, Nodes, Same};
+ghost use Rattle.turns.specs.Turns.{Turning, TurnedTo, EndedWith};
 
 use deck::{Collision, Constraint};
-use expand::Made;
+use expand::{Given, Made};
 use nodes::{ConstraintList, Open};
 use std::ops::ControlFlow;
 
@@ -56,45 +56,37 @@ fn sides(c: Collision) -> (Constraint, Constraint)
 }
 
 // The first collision of the paths of node n, which are written over the first words of `paths`.
-fn collision_of(
-    s: &[u8],
-    starts: &[u16; 12],
-    work: &[u32],
-    n: usize,
-    paths: &mut [u16; 3072],
-) -> Option<Collision>
-    requires { (cause s.now ≡ None) × StartsOf (read s.now) starts.now × HasRecord work.now n }
-    ensures { result ≡ first_collision (count_of s.now) (read s.now).horizon (node_at (read s.now) work.now n).paths }
+fn collision_of(given: &Given, work: &[u32], n: usize, paths: &mut [u16; 3072]) -> Option<Collision>
+    requires { HasRecord work.now n }
+    ensures { result ≡ first_collision (sheet_of given.now).count (sheet_of given.now).horizon (node_at (sheet_of given.now) work.now n).paths }
 {
-    let w = sheet::width(s);
-    let m = sheet::count(s);
-    let last = sheet::horizon(s);
-    nodes::write_paths(work, n, starts, w, last, m, paths);
+    let sheet = given.sheet;
+    let starts = given.starts;
+    let m = sheet.count();
+    let last = sheet.horizon();
+    nodes::write_paths(work, n, starts, sheet.width(), last, m, paths);
     collision_scan::first_among(m, last, paths)
 }
 
 // Expands a node by the collision c.
 fn expanded(
-    s: &[u8],
-    mask: &[u8; 1156],
-    t: &[u16; 144],
+    given: &Given,
     work: &mut [u32],
     spare: &mut [u32; 8192],
     list: &mut ConstraintList,
     made: Made,
     node: Open,
     c: Collision,
-    bounds: &[u8],
 ) -> ControlFlow<End, Made>
-    requires given { Given s.now mask.now t.now work.old bounds.now × (node.n < made.nodes) × Holding (read s.now) work.old made.nodes made.latest }
-    requires node_at { NodeAt (read s.now) work.old node.n × InRange (read s.now) (sides c).0 × InRange (read s.now) (sides c).1 }
-    ensures turned { (opened : Nodes) (rest : List (List ℕ)) → Held (read s.now) work.old made.nodes made.latest (record { opened = opened; made = made.nodes; rest = rest }) → TurnedTo (read s.now) work.new result (make_each (problem (read s.now)) (read s.now).limit node.cost (node_at (read s.now) work.old node.n) (sides c) rest (record { opened = opened; made = made.nodes; rest = rest_after (problem (read s.now)) (node_at (read s.now) work.old node.n).root rest })) }
-    ensures same { Same (read s.now) work.old work.new made.nodes }
+    requires room { Room given.now work.old }
+    requires below { node.n < made.nodes }
+    requires held { Holding (sheet_of given.now) work.old made.nodes made.latest }
+    requires node_at { NodeAt (sheet_of given.now) work.old node.n × InRange (sheet_of given.now) (sides c).0 × InRange (sheet_of given.now) (sides c).1 }
+    ensures turned { (opened : Nodes) (rest : List (List ℕ)) → Held (sheet_of given.now) work.old made.nodes made.latest (record { opened = opened; made = made.nodes; rest = rest }) → TurnedTo (sheet_of given.now) work.new result (make_each (problem (sheet_of given.now)) (sheet_of given.now).limit node.cost (node_at (sheet_of given.now) work.old node.n) (sides c) rest (record { opened = opened; made = made.nodes; rest = rest_after (problem (sheet_of given.now)) (node_at (sheet_of given.now) work.old node.n).root rest })) }
+    ensures same { Same (sheet_of given.now) work.old work.new made.nodes }
 {
     let (first, second) = sides(c);
-    match expand::expand(
-        s, mask, t, work, spare, list, made, node.n, first, second, bounds,
-    ) {
+    match expand::expand(given, work, spare, list, made, node.n, first, second) {
         Some(more) => ControlFlow::Continue(more),
         None => ControlFlow::Break(End::Spent { bound: node.cost }),
     }
@@ -103,52 +95,41 @@ fn expanded(
 // One turn: the cheapest open node is taken. Without a collision it is the plan; otherwise it is expanded. The least keys of the
 // blocks are then those of the nodes that were made before.
 fn turn(
-    s: &[u8],
-    mask: &[u8; 1156],
-    starts: &[u16; 12],
-    t: &[u16; 144],
+    given: &Given,
     work: &mut [u32],
     spare: &mut [u32; 8192],
     list: &mut ConstraintList,
     made: Made,
-    bounds: &[u8],
     lows: &mut [u32; 64],
     paths: &mut [u16; 3072],
 ) -> ControlFlow<End, Made>
-    requires given { Given s.now mask.now t.now work.old bounds.now × StartsOf (read s.now) starts.now × Lows (read s.now).limit work.old made.nodes lows.old }
-    requires by_index { (st : State (List ℕ) Constraint) × (k : ℕ) × Turning (read s.now) work.old made.nodes made.latest k st }
-    ensures turned { (st : State (List ℕ) Constraint) (k : ℕ) → Turning (read s.now) work.old made.nodes made.latest k st → TurnedTo (read s.now) work.new result (turn (problem (read s.now)) (read s.now).limit cheapest st) }
-    ensures lows { Lows (read s.now).limit work.new made.nodes lows.new }
+    requires room { Room given.now work.old }
+    requires lows { Lows (sheet_of given.now).limit work.old made.nodes lows.old }
+    requires by_index { (st : State (List ℕ) Constraint) × (k : ℕ) × Turning (sheet_of given.now) work.old made.nodes made.latest k st }
+    ensures turned { (st : State (List ℕ) Constraint) (k : ℕ) → Turning (sheet_of given.now) work.old made.nodes made.latest k st → TurnedTo (sheet_of given.now) work.new result (turn (problem (sheet_of given.now)) (sheet_of given.now).limit cheapest st) }
+    ensures lows { Lows (sheet_of given.now).limit work.new made.nodes lows.new }
 {
-    let limit = sheet::limit(s);
+    let limit = given.sheet.limit();
     let Some(node) = nodes::cheapest(work, limit, made.nodes, lows) else {
         return ControlFlow::Break(End::NoPlan { made: made.nodes });
     };
     nodes::close(work, limit, made.nodes, node.n, lows);
-    let Some(c) = collision_of(s, starts, work, node.n, paths) else {
+    let Some(c) = collision_of(given, work, node.n, paths) else {
         return ControlFlow::Break(End::Plan {
             node,
             made: made.nodes,
         });
     };
-    expanded(s, mask, t, work, spare, list, made, node, c, bounds)
+    expanded(given, work, spare, list, made, node, c)
 }
 
 // The turns, from the first root on.
-pub fn run(
-    s: &[u8],
-    mask: &[u8; 1156],
-    starts: &[u16; 12],
-    t: &[u16; 144],
-    work: &mut [u32],
-    spare: &mut [u32; 8192],
-    bounds: &[u8],
-) -> End
-    requires given { Given s.now mask.now t.now work.old bounds.now × StartsOf (read s.now) starts.now }
-    requires by_index { (a : List ℕ) × (rest : List (List ℕ)) × ((problem (read s.now)).assignments ≡ a ∷ rest) × Held (read s.now) work.old 1 1 (record { opened = root_of (problem (read s.now)) a ∷ []; made = 1; rest = rest }) }
-    ensures { EndedWith (read s.now) work.new result (plan_for (read s.now)) }
+pub fn run(given: &Given, work: &mut [u32], spare: &mut [u32; 8192]) -> End
+    requires room { Room given.now work.old }
+    requires by_index { (a : List ℕ) × (rest : List (List ℕ)) × ((problem (sheet_of given.now)).assignments ≡ a ∷ rest) × Held (sheet_of given.now) work.old 1 1 (record { opened = root_of (problem (sheet_of given.now)) a ∷ []; made = 1; rest = rest }) }
+    ensures { EndedWith (sheet_of given.now) work.new result (plan_for (sheet_of given.now)) }
 {
-    let limit = sheet::limit(s);
+    let limit = given.sheet.limit();
     let mut list = ConstraintList::new();
     let mut paths = [0u16; 3072];
     let mut lows = [records::CLOSED_KEY; 64];
@@ -158,9 +139,7 @@ pub fn run(
     };
     nodes::enter(work, limit, 0, made.nodes, &mut lows);
     for _ in 0..limit + 1 {
-        match turn(
-            s, mask, starts, t, work, spare, &mut list, made, bounds, &mut lows, &mut paths,
-        ) {
+        match turn(given, work, spare, &mut list, made, &mut lows, &mut paths) {
             ControlFlow::Continue(more) => {
                 nodes::enter(work, limit, made.nodes, more.nodes, &mut lows);
                 made = more;
