@@ -27,7 +27,8 @@ use Rattle.nodes.proofs.Readers.{paths_read}
 use Rattle.roots.specs.Tournament.{NextTaken}
 use Rattle.roots.specs.Begun.{RootBegun}
 use Rattle.expand.specs.Held.{Begun}
-use Rattle.turns.specs.Turns.{StartsOf, PlanAt}
+use Rattle.expand.specs.Starts.{StartsOf}
+use Rattle.turns.specs.Turns.{PlanAt}
 
 -- THE STARTS, one more
 pub starts_more : (d : Sheet) (starts : List ℕ) (i x : ℕ) → i < length starts → ((k : ℕ) → k < i → get_or starts k 0 ≡ get_or d.starts k 0) → x ≡ get_or d.starts i 0

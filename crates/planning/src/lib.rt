@@ -2,45 +2,47 @@
 #![tactic(auto)]
 
 ghost use Rattle.std.specs.Prelude.{◌≡◌, List, ℕ, ◌≤◌, length, None, Some};
-ghost use Rattle.deck.specs.Sheet.{read, count_of, cause};
+ghost use Rattle.deck.specs.Sheet.{read, cause};
 ghost use Rattle.deck.specs.Assignments.{least_assignment, table_of};
 ghost use Rattle.deck.specs.Calls.{search_found, search_written, task_list, workspace_for, plan_words};
 ghost use Rattle.deck.specs.Search.{Answer};
 ghost use Rattle.deck.specs.Planner.{plan_for};
 ghost use Rattle.bars.specs.Padded.{MaskOf};
 ghost use Rattle.scratch.specs.Bounded.{Bounded};
-ghost use Rattle.expand.specs.Held.{Given};
-ghost use Rattle.turns.specs.Turns.{StartsOf, EndedWith};
+ghost use Rattle.expand.specs.Starts.{StartsOf};
+ghost use Rattle.expand.specs.Given.{sheet_of, Room};
+ghost use Rattle.turns.specs.Turns.{EndedWith};
 
+use bars::Layer;
 use deck::{Carrier, SearchAnswer, Task};
+use expand::Given;
 use records::Record;
+use sheet::AcceptedSheet;
 use turns::End;
 
 // How many bytes the lower bounds of a task have.
 const BOUNDS: usize = 9216;
 
-fn starts_of(s: &[u8]) -> [u16; 12]
-    requires { cause s.now ≡ None }
-    ensures { StartsOf (read s.now) result }
+// The starts of the carriers.
+fn starts_of(sheet: &AcceptedSheet) -> [u16; 12]
+    ensures { StartsOf (read sheet.now.bytes.now) result }
 {
-    let m = sheet::count(s);
     let mut starts = [0u16; 12];
-    for i in 0..m {
-        starts[i] = sheet::start(s, Carrier(i)) as u16;
+    for i in 0..sheet.count() {
+        starts[i] = sheet.start(Carrier(i)) as u16;
     }
     starts
 }
 
 // The lower bounds of all tasks.
-fn bounds_of(s: &[u8], mask: &[u8; 1156], table: &mut [u8])
-    requires { (cause s.now ≡ None) × MaskOf (read s.now) mask.now × (length table.old ≡ 110592) }
-    ensures { Bounded (read s.now) table.new }
+fn bounds_of(sheet: &AcceptedSheet, mask: &Layer, table: &mut [u8])
+    requires { MaskOf (read sheet.now.bytes.now) mask.now × (length table.old ≡ 110592) }
+    ensures { Bounded (read sheet.now.bytes.now) table.new }
 {
-    let m = sheet::count(s);
     // Kept: no `chunks_exact_mut`, whose contract says nothing of what is written through it.
-    for j in 0..m {
+    for j in 0..sheet.count() {
         bounds::bounds(
-            s,
+            *sheet,
             Task(j),
             mask,
             &mut table[BOUNDS * j..BOUNDS * j + BOUNDS],
@@ -49,16 +51,19 @@ fn bounds_of(s: &[u8], mask: &[u8; 1156], table: &mut [u8])
 }
 
 // The answer for the end of the search. Only a plan is written.
-fn answered(s: &[u8], starts: &[u16; 12], work: &[u32], end: End, out: &mut [u16]) -> SearchAnswer
-    requires { (cause s.now ≡ None) × StartsOf (read s.now) starts.now × (workspace_for (read s.now) ≤ length work.now) × (plan_words (read s.now) ≤ length out.old) × ((a : Answer (List ℕ)) × EndedWith (read s.now) work.now end a) }
-    ensures { (a : Answer (List ℕ)) → EndedWith (read s.now) work.now end a → (result ≡ search_found a) × (out.new ≡ search_written a out.old) }
+fn answered(given: &Given, work: &[u32], end: End, out: &mut [u16]) -> SearchAnswer
+    requires room { Room given.now work.now }
+    requires words { plan_words (sheet_of given.now) ≤ length out.old }
+    requires ended { (a : Answer (List ℕ)) × EndedWith (sheet_of given.now) work.now end a }
+    ensures { (a : Answer (List ℕ)) → EndedWith (sheet_of given.now) work.now end a → (result ≡ search_found a) × (out.new ≡ search_written a out.old) }
 {
+    let sheet = given.sheet;
     match end {
         End::Plan { node, made } => {
-            let w = sheet::width(s);
-            let m = sheet::count(s);
-            let last = sheet::horizon(s);
-            nodes::write_paths(work, node.n, starts, w, last, m, out);
+            let starts = given.starts;
+            let m = sheet.count();
+            let last = sheet.horizon();
+            nodes::write_paths(work, node.n, starts, sheet.width(), last, m, out);
             SearchAnswer::Plan {
                 tasks: Record::at(work, node.n).tasks(),
                 flowtime: node.cost,
@@ -68,7 +73,7 @@ fn answered(s: &[u8], starts: &[u16; 12], work: &[u32], end: End, out: &mut [u16
         }
         End::NoPlan { made } => SearchAnswer::NoPlan { nodes: made },
         End::Spent { bound } => SearchAnswer::Spent {
-            nodes: sheet::limit(s),
+            nodes: sheet.limit(),
             bound,
         },
     }
@@ -76,24 +81,21 @@ fn answered(s: &[u8], starts: &[u16; 12], work: &[u32], end: End, out: &mut [u16
 
 // The search from the first assignment on: its root is node 0.
 fn planned(
-    s: &[u8],
-    mask: &[u8; 1156],
-    starts: &[u16; 12],
-    t: &[u16; 144],
+    given: &Given,
     work: &mut [u32],
     spare: &mut [u32; 8192],
     tasks: [u8; 12],
     out: &mut [u16],
-    bounds: &[u8],
 ) -> SearchAnswer
-    requires given { Given s.now mask.now t.now work.old bounds.now × StartsOf (read s.now) starts.now × (plan_words (read s.now) ≤ length out.old) }
-    requires by_index { (a : List ℕ) × (least_assignment (count_of s.now) (table_of (read s.now)) ≡ Some a) × (tasks ≡ task_list a) }
-    ensures { (result ≡ search_found (plan_for (read s.now))) × (out.new ≡ search_written (plan_for (read s.now)) out.old) }
+    requires room { Room given.now work.old }
+    requires words { plan_words (sheet_of given.now) ≤ length out.old }
+    requires by_index { (a : List ℕ) × (least_assignment (sheet_of given.now).count (table_of (sheet_of given.now)) ≡ Some a) × (tasks ≡ task_list a) }
+    ensures { (result ≡ search_found (plan_for (sheet_of given.now))) × (out.new ≡ search_written (plan_for (sheet_of given.now)) out.old) }
 {
-    roots::first_root(work, sheet::count(s), t, tasks);
-    expand::complete_root(s, mask, t, work, spare, 0, bounds);
-    let end = turns::run(s, mask, starts, t, work, spare, bounds);
-    answered(s, starts, work, end, out)
+    roots::first_root(work, given.sheet.count(), given.table, tasks);
+    expand::complete_root(given, work, spare, 0);
+    let end = turns::run(given, work, spare);
+    answered(given, work, end, out)
 }
 
 // The search of an accepted sheet that has bytes, with room enough.
@@ -101,24 +103,22 @@ pub fn accepted(s: &[u8], work: &mut [u32], out: &mut [u16]) -> SearchAnswer
     requires { (cause s.now ≡ None) × (workspace_for (read s.now) ≤ length work.old) × (plan_words (read s.now) ≤ length out.old) }
     ensures { (result ≡ search_found (plan_for (read s.now))) × (out.new ≡ search_written (plan_for (read s.now)) out.old) }
 {
-    let mask = mask::mask_of(s);
-    let starts = starts_of(s);
-    let t = finishes::table(s, &mask);
-    let Some(first) = candidates::first(sheet::count(s), &t) else {
+    let sheet = AcceptedSheet::new(s);
+    let mask = mask::mask_of(&sheet);
+    let starts = starts_of(&sheet);
+    let table = finishes::table(&sheet, &mask);
+    let Some(first) = candidates::first(sheet.count(), &table) else {
         return SearchAnswer::NoPlan { nodes: 0 };
     };
     let mut spare = [0u32; 8192];
     let mut bounds = [0u8; 12 * BOUNDS];
-    bounds_of(s, &mask, &mut bounds);
-    planned(
-        s,
-        &mask,
-        &starts,
-        &t,
-        work,
-        &mut spare,
-        first.tasks,
-        out,
-        &bounds,
-    )
+    bounds_of(&sheet, &mask, &mut bounds);
+    let given = Given {
+        sheet: &sheet,
+        mask: &mask,
+        table: &table,
+        starts: &starts,
+        bounds: &bounds,
+    };
+    planned(&given, work, &mut spare, first.tasks, out)
 }

@@ -7,13 +7,16 @@ use Rattle.planning.proofs.Answering.{none_answer, some_tasks, none_found, none_
 use Rattle.planning.proofs.accepted.Goals as goal
 
 pub first-requires : goal.first-requires
-first-requires c = omega (arith, c.count.ensures.value, count_range c.args.s.now c.requires.0)
+first-requires c =
+    let sheet = c.new-sheet.result in
+    omega (arith, c.count.ensures.value, count_range sheet.bytes.now sheet.accepted)
 
 pub returns-in_default : goal.returns-in_default
 returns-in_default c =
-    let e = none_answer c.args.s.now c.requires.0 c.table-t.result c.table-t.ensures c.count.result c.count.ensures.value c.in_default.ensures in
+    let e = rw c.new-sheet.ensures at (none_answer c.new-sheet.result.bytes.now c.new-sheet.result.accepted c.table-table.result c.table-table.ensures c.count.result c.count.ensures.value c.in_default.ensures) in
     (none_found (plan_for (read c.args.s.now)) 0 e, none_written (plan_for (read c.args.s.now)) 0 c.args.out.now e)
 
 pub planned-requires-clause-by_index : goal.planned-requires-clause-by_index
 planned-requires-clause-by_index c =
-    some_tasks c.args.s.now c.requires.0 c.table-t.result c.table-t.ensures c.count.result c.count.ensures.value c.in-Some.first c.in-Some.ensures
+    let sheet = c.new-sheet.result in
+    some_tasks sheet.bytes.now sheet.accepted c.table-table.result c.table-table.ensures c.count.result c.count.ensures.value c.in-Some.first c.in-Some.ensures

@@ -8,14 +8,14 @@ use Rattle.planning.proofs.bounds_of.Goals as goal
 
 pub slice_bounds-bounds-end : goal.slice_bounds-bounds-end
 slice_bounds-bounds-end c =
-    let few : c.loop-j.j < 12 = omega (arith, c.loop-j-test.true, c.count-m.ensures.value, (count_range c.args.s.now c.requires.0).1) in
-    omega (arith, part_inside (read c.args.s.now) c.loop-j.j c.loop-j.table c.loop-j.invariant.1 few)
+    let few : c.loop-j.j < 12 = omega (arith, c.loop-j-test.true, c.count-j-end.ensures.value, (count_range c.args.sheet.now.bytes.now c.args.sheet.now.accepted).1) in
+    omega (arith, part_inside (read c.args.sheet.now.bytes.now) c.loop-j.j c.loop-j.table c.loop-j.invariant.1 few)
 
 pub loop-j-preserved : goal.loop-j-preserved
 loop-j-preserved c =
-    let few : c.loop-j.j < 12 = omega (arith, c.loop-j-test.true, c.count-m.ensures.value, (count_range c.args.s.now c.requires.0).1) in
+    let few : c.loop-j.j < 12 = omega (arith, c.loop-j-test.true, c.count-j-end.ensures.value, (count_range c.args.sheet.now.bytes.now c.args.sheet.now.accepted).1) in
     let loop = c.loop-j in
-    (omega (arith, c.loop-j-test.true), more_begun (read c.args.s.now) loop.j loop.table loop.invariant.1 few c.bounds.new.table c.bounds.auto.table c.bounds.ensures)
+    (omega (arith, c.loop-j-test.true), more_begun (read c.args.sheet.now.bytes.now) loop.j loop.table loop.invariant.1 few c.bounds.new.table c.bounds.auto.table c.bounds.ensures)
 
 pub returns : goal.returns
-returns c = all_begun (read c.args.s.now) c.loop-j.j c.loop-j.table (omega (arith, c.loop-j-test.false, c.count-m.ensures.value)) c.loop-j.invariant.1
+returns c = all_begun (read c.args.sheet.now.bytes.now) c.loop-j.j c.loop-j.table (omega (arith, c.loop-j-test.false, c.count-j-end.ensures.value)) c.loop-j.invariant.1

@@ -5,4 +5,4 @@ use Rattle.planning.proofs.Bounding.{Begun}
 use Rattle.planning.proofs.bounds_of.Given as goal
 
 abbrev pub invariant-loop-j : goal.invariant-loop-j
-invariant-loop-j l = (l.j ≤ l.m) × Begun (read l.s) l.j l.table
+invariant-loop-j l = (l.j ≤ l.j-end) × Begun (read l.sheet.bytes.now) l.j l.table
