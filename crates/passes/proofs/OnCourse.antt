@@ -64,6 +64,10 @@ module _ (u : Course) where
   sweep_first {goals} e f g sd =
       swept_first s (carrier_of u) u.task u.mask.now u.chains.now.records.now u.ready w h u.sized goals (rw e u.goals_at) (g ∙ ap (pad_of w) f) sd
 
+  pub sweep_of : {goals : List ℕ} {from v p horizon : ℕ} → goals ≡ listed u.goals → EarlyOn u from → v ≡ last_goal (sheet_of u) u.task → p ≡ pad_of w v
+      → horizon ≡ (sheet_of u).horizon → Sweep u goals from p horizon
+  sweep_of e early f g z = record { of_task = e; early = early; at = g ∙ ap (pad_of w) f; last = z }
+
   module _ {goals : List ℕ} {from p horizon : ℕ} (q : Sweep u goals from p horizon) {a b : List ℕ} {t : ℕ} {m : Bool} (v : SweptOn u a b t)
       (x : m ≡ (leb from t && ltb (length goals) (get_or a p 0))) where
     pub sweep_ends : m ≡ true → LeastOn u t × (t ≤ (sheet_of u).horizon)

@@ -77,16 +77,6 @@ impl Target {
     }
 }
 
-// One layer of a backward pass: the layer of time t, from that of t + 1, kept in the workspace.
-fn back_step(pass: &Pass, t: usize, src: &Layer, dst: &mut Layer, words: &mut [u32])
-    requires { (t < 256) × (length dst.old ≡ 1156) × (t * words_for pass.now.chains.now.size.width pass.now.chains.now.size.height + words_for pass.now.chains.now.size.width pass.now.chains.now.size.height ≤ length words.old) }
-    ensures stepped { Stepped pass.now.chains.now.size.width pass.now.chains.now.size.height pass.now.mask.now pass.now.chains.now.carrier (constraints_of pass.now.chains.now.records.now) t t (is_back pass.now.direction) pass.now.goals.now (length pass.now.goals.now) src.now dst.old dst.new }
-    ensures kept { Kept dst.new (row_of pass.now.chains.now.size.width) (t * words_for pass.now.chains.now.size.width pass.now.chains.now.size.height) (words_for pass.now.chains.now.size.width pass.now.chains.now.size.height) words.old words.new }
-{
-    pass.step(t, t, src, dst);
-    layers::keep(dst, pass.chains.size, words, t);
-}
-
 impl<'a> Course<'a> {
     ghost use Rattle.passes.specs.Courses.{sheet_of, EarlyOn, LeastIs, can_finish, Roomy, BackedOn, DoorsOn};
 
@@ -113,23 +103,18 @@ impl<'a> Course<'a> {
         let horizon = self.sheet.horizon();
         let mut a = pass.seed(0, size.pad(self.sheet.start(self.chains.carrier)));
         let mut b = [0u8; CELLS];
-        let mut t = 0;
-        loop {
-            if target.met(&a, t) {
+        let (mut src, mut dst) = (&mut a, &mut b);
+        for t in 0..horizon {
+            if target.met(src, t) {
                 return Some(t);
             }
-            if t == horizon {
-                return None;
-            }
-            pass.step(t, t + 1, &a, &mut b);
-            if target.met(&b, t + 1) {
-                return Some(t + 1);
-            }
-            if t + 1 == horizon {
-                return None;
-            }
-            pass.step(t + 1, t + 2, &b, &mut a);
-            t = t + 2;
+            pass.step(t, t + 1, src, dst);
+            (src, dst) = (dst, src);
+        }
+        if target.met(src, horizon) {
+            Some(horizon)
+        } else {
+            None
         }
     }
 
@@ -170,17 +155,13 @@ impl<'a> Course<'a> {
         let mut a = pass.seed(end, size.pad(self.sheet.last_goal(self.task)));
         layers::keep(&a, size, words, end);
         let mut b = [0u8; CELLS];
-        let mut t = end;
-        while 1 < t {
-            back_step(&pass, t - 1, &a, &mut b, words);
-            back_step(&pass, t - 2, &b, &mut a, words);
-            t = t - 2;
+        let (mut src, mut dst) = (&mut a, &mut b);
+        for t in (0..end).rev() {
+            pass.step(t, t, src, dst);
+            layers::keep(dst, size, words, t);
+            (src, dst) = (dst, src);
         }
-        if t == 1 {
-            back_step(&pass, 0, &a, &mut b, words);
-            return n < usize::from(b[start]);
-        }
-        n < usize::from(a[start])
+        n < usize::from(src[start])
     }
 
     // The backward pass from `end`: the layers of all times up to it are kept, and the answer is whether the task can be finished

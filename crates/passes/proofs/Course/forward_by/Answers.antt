@@ -1,53 +1,48 @@
 -- `Course::forward_by` meets its contract: where the pass is at t. Assumes nothing.
-use Rattle.std.proofs.Common.{refl, ap, ◌∙◌, arith}
-use Rattle.bars.specs.Padded.{pad_of}
-use Rattle.passes.proofs.OnCourse.{forth_asks, goal_small, sweep_first, sweep_ends, sweep_late, sweep_next}
+use Rattle.std.proofs.Common.{◌≡◌, refl, subst, arith}
+use Rattle.passes.proofs.OnCourse.{SweptOn, forth_asks, goal_small, time_small, sweep_of, sweep_first, sweep_ends, sweep_late, sweep_next}
 use Rattle.passes.proofs.Course.forward_by.Goals as goal
 
 pub invariant_of-pass : goal.invariant_of-pass
 invariant_of-pass c =
     let q = forth_asks c.args.self.now c.all-goals.ensures in record { passable = c.requires.passable; few_goals = q.0; goals_on = q.1 }
 
-pub loop-pass-init : goal.loop-pass-init
-loop-pass-init c = (
-  omega arith,
-  c.horizon-horizon.ensures.range,
-  goal_small c.args.self.now c.last_goal.ensures.value c.pad.ensures,
-  record {
-    of_task = c.all-goals.ensures;
-    early = c.requires.early;
-    at = c.pad.ensures ∙ ap (pad_of c.args.self.now.chains.now.size.width) c.last_goal.ensures.value;
-    last = c.horizon-horizon.ensures.value;
-  },
-  sweep_first c.args.self.now c.all-goals.ensures c.start.ensures.value c.pad-2.ensures c.seed-a.ensures,
-)
+pub loop-t-init : goal.loop-t-init
+loop-t-init c = sweep_first c.args.self.now c.all-goals.ensures c.start.ensures.value c.pad-2.ensures c.seed-a.ensures
+
+pub met-requires : goal.met-requires
+met-requires c = goal_small c.args.self.now c.last_goal.ensures.value c.pad.ensures
+
+pub step-requires : goal.step-requires
+step-requires c =
+    let u = c.args.self.now in
+    let v = c.loop-t.invariant in (
+      omega (arith, time_small u v.in_time),
+      omega (arith, c.loop-t-test.true, c.horizon-horizon.ensures.range),
+      v.spare.size,
+    )
 
 pub returns-then-met : goal.returns-then-met
-returns-then-met c = sweep_ends c.args.self.now c.loop-pass.invariant.3 c.loop-pass.invariant.4 c.met.ensures c.if-met.true
+returns-then-met c =
+    let q = sweep_of c.args.self.now c.all-goals.ensures c.requires.early c.last_goal.ensures.value c.pad.ensures c.horizon-horizon.ensures.value in
+    sweep_ends c.args.self.now q c.loop-t.invariant c.met.ensures c.if-met.true
 
-pub returns-then-t-horizon : goal.returns-then-t-horizon
-returns-then-t-horizon c = sweep_late c.args.self.now c.loop-pass.invariant.3 c.loop-pass.invariant.4 c.met.ensures c.if-met.false c.if-t-horizon.true
+pub loop-t-preserved : goal.loop-t-preserved
+loop-t-preserved c =
+    let q = sweep_of c.args.self.now c.all-goals.ensures c.requires.early c.last_goal.ensures.value c.pad.ensures c.horizon-horizon.ensures.value in
+    sweep_next c.args.self.now q c.loop-t.invariant c.met.ensures c.if-met.false (λ e. omega (arith, c.loop-t-test.true)) refl c.step.ensures
+
+pub met-requires-2 : goal.met-requires-2
+met-requires-2 c = goal_small c.args.self.now c.last_goal.ensures.value c.pad.ensures
 
 pub returns-then-met-2 : goal.returns-then-met-2
 returns-then-met-2 c =
-    let u = c.args.self.now in
-    let q = c.loop-pass.invariant.3 in
-    sweep_ends u q (sweep_next u q c.loop-pass.invariant.4 c.met.ensures c.if-met.false c.if-t-horizon.false refl c.step.ensures) c.met-in-loop-pass.ensures c.if-met-2.true
+    let q = sweep_of c.args.self.now c.all-goals.ensures c.requires.early c.last_goal.ensures.value c.pad.ensures c.horizon-horizon.ensures.value in
+    let late : c.loop-t.t ≡ c.horizon-horizon.result = omega (arith, c.loop-t-test.false, c.loop-t.invariant.in_time, c.horizon-horizon.ensures.value) in
+    sweep_ends c.args.self.now q (subst (SweptOn c.args.self.now c.loop-t.src.now c.loop-t.dst.now) late c.loop-t.invariant) c.met-2.ensures c.if-met-2.true
 
-pub returns-then-t-horizon-2 : goal.returns-then-t-horizon-2
-returns-then-t-horizon-2 c =
-    let u = c.args.self.now in
-    let q = c.loop-pass.invariant.3 in
-    sweep_late u q (sweep_next u q c.loop-pass.invariant.4 c.met.ensures c.if-met.false c.if-t-horizon.false refl c.step.ensures) c.met-in-loop-pass.ensures c.if-met-2.false c.if-t-horizon-2.true
-
-pub loop-pass-preserved : goal.loop-pass-preserved
-loop-pass-preserved c =
-    let u = c.args.self.now in
-    let q = c.loop-pass.invariant.3 in
-    let v = sweep_next u q c.loop-pass.invariant.4 c.met.ensures c.if-met.false c.if-t-horizon.false refl c.step.ensures in (
-      omega (arith, c.if-t-horizon.false, c.if-t-horizon-2.false),
-      c.loop-pass.invariant.1,
-      c.loop-pass.invariant.2,
-      q,
-      sweep_next u q v c.met-in-loop-pass.ensures c.if-met-2.false c.if-t-horizon-2.false (omega arith) c.step-in-loop-pass.ensures,
-    )
+pub returns-else-met-2 : goal.returns-else-met-2
+returns-else-met-2 c =
+    let q = sweep_of c.args.self.now c.all-goals.ensures c.requires.early c.last_goal.ensures.value c.pad.ensures c.horizon-horizon.ensures.value in
+    let late : c.loop-t.t ≡ c.horizon-horizon.result = omega (arith, c.loop-t-test.false, c.loop-t.invariant.in_time, c.horizon-horizon.ensures.value) in
+    sweep_late c.args.self.now q (subst (SweptOn c.args.self.now c.loop-t.src.now c.loop-t.dst.now) late c.loop-t.invariant) c.met-2.ensures c.if-met-2.false refl
