@@ -1,20 +1,21 @@
 -- What records say as constraints: the carrier's of a time are those that bar it then, and each is a record. Assumes nothing.
-use Rattle.std.proofs.Common.{ℕ, zero, suc, ◌/◌, ◌≤◌, ◌<◌, ◌≡◌, refl, sym, ap, ◌∙◌, subst, Bool, true, false, not, ◌&&◌, List, [], ◌∷◌, length, T, eqb}
-use Rattle.std.specs.List.{list_all}
+use Rattle.std.proofs.Common.{ℕ, zero, suc, ◌/◌, ◌<◌, ◌≡◌, refl, sym, ap, ◌∙◌, subst, Bool, true, false, not, ◌&&◌, List, [], ◌∷◌, map, arith, length, T, eqb}
+use Rattle.std.specs.List.{list_all, range_with_len}
+use Rattle.std.proofs.lemmas.List.{length-map, get_or-map}
+use Rattle.std.proofs.lemmas.List.FromFn.{fill_by_all}
 use mathlib.Core.List.{Memᴰ as Mem}
 use mathlib.Core.Bool.{false≢true}
 use mathlib.Core.List.Memᴰ.{head as here}
 use mathlib.Core.List.Memᴰ.{tail as there}
-use native.Mathlib.Nat.{le_antisymm}
 use Rattle.deck.specs.Lists.{below, all}
 use Rattle.deck.specs.Sheet.{carrier}
 use Rattle.deck.specs.Calls.{record_word, constraint_of, constraint_at, constraints_of}
+use Rattle.deck.specs.declared.Carrier.{Carrier}
 use Rattle.deck.specs.declared.Constraint.{Constraint}
 use Rattle.meaning.proofs.Tests.{same_test}
-use Rattle.meaning.proofs.Lists.{mem_map, map_mem, mem_below}
-use Rattle.kernel.specs.Parts.{bars_move, bars_place, free_move, free_place, stay_after, stay_from}
+use Rattle.meaning.proofs.Lists.{mem_map, map_mem, mem_below, length_below, get_or_below}
+use Rattle.kernel.specs.Parts.{bars_move, bars_place, free_move, free_place, stay_after}
 use Rattle.kernel.proofs.Both.{and_left, and_right}
-use Rattle.kernel.proofs.Least.{greatest_all, all_greatest}
 use Rattle.bars.specs.Padded.{pad_of}
 use Rattle.bars.specs.Bars.{count_in, own_at, OnLayer, OnPadded, ours_at, moves, stands_on}
 use Rattle.bars.proofs.Walks.{ours_mem, mem_ours}
@@ -120,11 +121,10 @@ module _ (rs : List ℕ) (i t : ℕ) where
       go k h zero = (h.0, h.2)
       go k h (suc z) = h
 
--- the least bound of the times of all records
-pub stay_is : (rs : List ℕ) (i g s : ℕ) → ((k : ℕ) → k < count_in rs → stay_after (carrier i) g (constraint_at rs k) ≤ s)
-    → ((b : ℕ) → ((k : ℕ) → k < count_in rs → stay_after (carrier i) g (constraint_at rs k) ≤ b) → s ≤ b)
-    → s ≡ stay_from (carrier i) g (constraints_of rs)
-unfolding stay_from
-stay_is rs i g s up least = le_antisymm
-    (least _ (λ k h. greatest_all (map_mem (stay_after (carrier i) g) (record_mem rs k h))))
-    (all_greatest _ s (λ x m. let r = mem_map (stay_after (carrier i) g) (constraints_of rs) m in let q = mem_record rs r.0 r.1 in rw (r.2, q.2) (up q.0 q.1)))
+-- the times of all records, one by one
+pub stay_times : (rs : List ℕ) (i : Carrier) (g : ℕ) → map (stay_after i g) (constraints_of rs) ≡ map (λ k. stay_after i g (constraint_at rs k)) (range_with_len 0 (count_in rs))
+unfolding constraints_of
+stay_times rs i g =
+    fill_by_all (λ k. stay_after i g (constraint_at rs k)) _ (count_in rs) (stay_after i g (constraint_at rs 0))
+    (length-map (constraints_of rs) (stay_after i g) ∙ length_below (count_in rs) (constraint_at rs))
+    (λ k h. get_or-map (stay_after i g) (constraints_of rs) k (constraint_at rs 0) (stay_after i g (constraint_at rs 0)) (omega (arith, h, length_below (count_in rs) (constraint_at rs))) ∙ ap (stay_after i g) (get_or_below (count_in rs) (constraint_at rs) k (constraint_at rs 0) h))

@@ -109,7 +109,8 @@ impl Way {
         }
     }
 
-    // The way by which a step from the padded place a comes to b, in padded rows of this length.
+    // The way by which a step from the padded place a comes to b, in padded rows of this length. Kept: five tests, since what is compared
+    // are two places, of which no number, row length aside, names the way.
     fn between(row: usize, a: usize, b: usize) -> Option<Way>
         requires { (row ≤ 34) × (a < 1156) × (b < 1156) }
         ensures { number_if result ≡ way_of row a b }
@@ -154,7 +155,8 @@ impl Size {
         Some(CELLS * way as usize + b)
     }
 
-    // Where the mask of the way that the constraint bars in a pass of this direction stands.
+    // Where the mask of the way that the constraint bars in a pass of this direction stands. Kept: the direction, which is data of a pass
+    // and chosen at run time; a closure would be made by the same match.
     fn move_slot(self, bar: Constraint, direction: Direction) -> Option<usize>
         requires { OnPadded self.width bar }
         ensures { SlotIn 5780 (move_slot self.width (is_back direction) bar) result }
@@ -197,6 +199,7 @@ fn constraint_of(words: &[u16]) -> Constraint
 }
 
 // The constraint bars the move from u to v at its time.
+// Kept: a match on the two constraints here and in the slots: each is one definition, by the same cases.
 fn bars_move(bar: Constraint, u: usize, v: usize) -> bool
     ensures { result ≡ moves u v bar }
 {
@@ -222,13 +225,13 @@ fn stay_after(bar: Constraint, carrier: Carrier, g: usize) -> usize
     ensures { result ≡ stay_after carrier g bar }
 {
     match bar {
-        Constraint::Place { carrier: of, u, t } if of.0 == carrier.0 && u == g => t + 1,
+        Constraint::Place { carrier: of, u, t } if of == carrier && u == g => t + 1,
         Constraint::Move {
             carrier: of,
             u,
             v,
             t,
-        } if of.0 == carrier.0 && u == g && v == g => t + 1,
+        } if of == carrier && u == g && v == g => t + 1,
         _ => 0,
     }
 }
@@ -346,11 +349,10 @@ impl<'a> Chains<'a> {
     pub fn stay_from(&self, g: usize) -> usize
         ensures { result ≡ stay_from self.now.carrier g (constraints_of self.now.records.now) }
     {
-        let mut from = 0;
-        for k in 0..self.records.len() / 5 {
-            from = from.max(stay_after(self.constraint(k), self.carrier, g));
-        }
-        from
+        (0..self.records.len() / 5)
+            .map(|k| stay_after(self.constraint(k), self.carrier, g))
+            .max()
+            .unwrap_or(0)
     }
 }
 

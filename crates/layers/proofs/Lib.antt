@@ -1,6 +1,7 @@
 pub mod Fills
 pub mod Around
 pub mod Raising
+pub mod Lanes
 pub mod Gating
 pub mod Stepping
 pub mod Advancing

@@ -1,5 +1,5 @@
 -- One step of a layer of labels: what the code's step comes to on the grid itself. Assumes nothing.
-use Rattle.std.specs.Prelude.{ℕ, ◌+◌, ◌*◌, ◌≤◌, ◌<◌, ◌≡◌, ◌≢◌, Bool, cond, ◌&&◌, Option, None, Some, List, [], length, get_or, T, eqb}
+use Rattle.std.specs.Prelude.{ℕ, ◌+◌, ◌-◌, ◌*◌, ◌≤◌, ◌<◌, ◌≡◌, ◌≢◌, Bool, cond, ◌&&◌, Option, None, Some, List, [], length, get_or, max, min, T, eqb}
 use Rattle.std.specs.Borrow.{Bor}
 use Rattle.deck.specs.Sheet.{Sheet, area, free}
 use Rattle.deck.specs.declared.Carrier.{Carrier}
@@ -40,6 +40,10 @@ pub record Margin (w h : ℕ) (x : List ℕ) : Type 0 where
   pub size : length x ≡ 1156
   pub over : (p : ℕ) → p < w + 2 → get_or x p 0 ≡ 0
   pub under : (p : ℕ) → (w + 2) * (h + 1) ≤ p → get_or x p 0 ≡ 0
+
+-- the greater of a number and of what a byte is away from 0 or from 255
+abbrev pub farther : ℕ → ℕ → ℕ
+farther most b = max most (min b (255 - b))
 
 -- from wide to end - 1 no byte of the mask is that of a lane
 abbrev pub Plain : List ℕ → ℕ → ℕ → Type 0

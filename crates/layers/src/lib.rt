@@ -3,18 +3,20 @@
 #![tactic(auto)]
 
 ghost use Rattle.std.specs.Prelude.{◌≡◌, true, cond, [], ◌+◌, ◌-◌, ◌*◌, ◌/◌, ◌<◌, ◌≤◌, length, get_or};
+ghost use Rattle.std.specs.List.{fold};
 ghost use Rattle.deck.specs.Calls.{constraints_of};
 ghost use Rattle.bars.specs.Padded.{row_of, end_of};
 ghost use Rattle.bars.specs.Ways.{number_of, is_back, opens_by};
 ghost use Rattle.layers.specs.Fill.{Filled};
 ghost use Rattle.layers.specs.Spread.{spread_at, spread_by};
 ghost use Rattle.layers.specs.Raise.{bumped, Raised, Indexes};
-ghost use Rattle.layers.specs.Step.{Plain, door_at, DoorsTo, Passable, bytes_of, Copies, Advanced, Stepped, Seeded};
+ghost use Rattle.layers.specs.Step.{farther, Plain, door_at, DoorsTo, Passable, bytes_of, Copies, Advanced, Stepped, Seeded};
 ghost use Rattle.layers.specs.Packed.{FourAt, Kept, byte_in, kept_at, words_for};
 
 use bars::{CELLS, Chains, Direction, Layer, Size, Way, Ways};
 
-// One step without constraints: one loop without branches, which the compiler turns into vector code.
+// One step without constraints: one loop without branches, which the compiler turns into vector code. Kept: an index, here and in the
+// two loops that follow it: five stretches of the layers, each at an offset of its own, would be five slices zipped by fours.
 fn spread(src: &Layer, mask: &Layer, row: usize, end: usize, dst: &mut Layer)
     requires { (1 ≤ row) × (row ≤ 34) × (row ≤ end) × (end ≤ 1122) × (length dst.old ≡ 1156) }
     ensures { Filled row end (spread_at src.now mask.now row) dst.old dst.new }
@@ -26,7 +28,8 @@ fn spread(src: &Layer, mask: &Layer, row: usize, end: usize, dst: &mut Layer)
     }
 }
 
-// One step where each way to a place has a mask of its own.
+// One step where each way to a place has a mask of its own. Kept: an index, as in `spread`; the masks of the five ways lie one after
+// the other, as `Ways` is laid out for the loop.
 fn spread_ways(src: &Layer, ways: &Ways, row: usize, end: usize, dst: &mut Layer)
     requires { (1 ≤ row) × (row ≤ 34) × (row ≤ end) × (end ≤ 1122) × (length dst.old ≡ 1156) }
     ensures { Filled row end (spread_by src.now ways.now row) dst.old dst.new }
@@ -67,7 +70,7 @@ fn four(layer: &Layer, p: usize) -> u32
     u32::from_le_bytes([layer[p], layer[p + 1], layer[p + 2], layer[p + 3]])
 }
 
-// Keeps the rows of the layer of time t in their words, four bytes to a word.
+// Keeps the rows of the layer of time t in their words, four bytes to a word. Kept: words at a product: they are lent, in fixed memory.
 pub fn keep(layer: &Layer, size: Size, words: &mut [u32], t: usize)
     requires { t * words_for size.width size.height + words_for size.width size.height ≤ length words.old }
     ensures { Kept layer.now (row_of size.width) (t * words_for size.width size.height) (words_for size.width size.height) words.old words.new }
@@ -87,7 +90,8 @@ fn byte_of(x: u32, k: usize) -> u32
     (x >> (8 * k)) % 256
 }
 
-// The byte k of the bytes that are kept from the word `at` on.
+// The byte k of the bytes that are kept from the word `at` on. Kept: the place beside the words: a slice from there on would ask the
+// trace for a test of its bounds at each byte.
 pub fn kept(work: &[u32], at: usize, k: usize) -> usize
     requires { (k < 4096) × (at + 1024 < 18446744073709551615) × (at + k / 4 < length work.now) }
     ensures { (result ≡ kept_at work.now at k) × (result < 256) }
@@ -95,14 +99,19 @@ pub fn kept(work: &[u32], at: usize, k: usize) -> usize
     byte_of(work[at + k / 4], k % 4) as usize
 }
 
-// No place is a lane: without a branch on the bytes, so that the compiler turns it into vector code.
+// The greatest of what the bytes are away from 0 or from 255, whichever is nearer: without a branch on them, so that the compiler turns
+// it into vector code.
+fn farthest(bytes: &[u8]) -> u8
+    ensures { result ≡ fold farther 0 bytes.now }
+{
+    bytes.iter().fold(0, |most, b| most.max((*b).min(255 - *b)))
+}
+
+// No place is a lane.
 pub fn is_plain(mask: &Layer, size: Size) -> bool
     ensures { result ≡ true → Plain mask.now (row_of size.width) (end_of size.width size.height) }
 {
-    let mut worst = 0u8;
-    for p in size.row()..size.end() {
-        worst = worst.max(mask[p].min(255 - mask[p]));
-    }
+    let worst = farthest(&mask[size.row()..size.end()]);
     worst == 0
 }
 
@@ -114,7 +123,7 @@ fn through(byte: u8, m: u8, way: Way) -> u8
 }
 
 // The bytes of one way, from `at` on, where the place that is left lies `turn` - `row` further and is left by the way: one loop
-// without branches, which the compiler turns into vector code.
+// without branches, which the compiler turns into vector code. Kept: an index, as in `spread`.
 fn fill_way(
     mask: &Layer,
     row: usize,

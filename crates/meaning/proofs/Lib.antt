@@ -1,6 +1,7 @@
 pub mod Iterators
 pub mod Tests
 pub mod Lists
+pub mod Greatest
 pub mod ListTests
 pub mod Accepted
 pub mod Dark
