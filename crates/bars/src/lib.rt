@@ -323,7 +323,7 @@ impl<'a> Chains<'a> {
 
     // Shuts the ways that the carrier's move constraints bar at t.
     pub fn shut(&self, t: usize, direction: Direction, ways: &mut Ways)
-        requires { (t < 256) × (length ways.old ≡ 5780) }
+        requires { t < 256 }
         ensures { Cleared (move_slot self.now.size.width (is_back direction)) (ours_at self.now.records.now self.now.carrier.0 t) ways.old ways.new }
     {
         for bar in self.at(t) {
@@ -335,7 +335,7 @@ impl<'a> Chains<'a> {
 
     // Takes the labels off the places that the carrier's place constraints bar at t.
     pub fn clear(&self, t: usize, layer: &mut Layer)
-        requires { (t < 256) × (length layer.old ≡ 1156) }
+        requires { t < 256 }
         ensures { Cleared (place_slot self.now.size.width) (ours_at self.now.records.now self.now.carrier.0 t) layer.old layer.new }
     {
         for bar in self.at(t) {

@@ -40,7 +40,7 @@ fn entries_of(sheet: &AcceptedSheet, size: Size) -> [Entry; 12]
 
 // Puts the column of a task into a table of twelve to a row.
 fn put_column(table: &mut [u16; 144], task: Task, entries: &[Entry])
-    requires { (task.0 < 12) × (length entries.now ≤ 12) × (length table.old ≡ 144) }
+    requires { (task.0 < 12) × (length entries.now ≤ 12) }
     ensures column { (i : ℕ) → i < length entries.now → cell table.new i task.0 ≡ number_of (get_or (steps_in entries.now) i None) }
     ensures others { (x : ℕ) → x % 12 ≢ task.0 → get_or table.new x 0 ≡ get_or table.old x 0 }
     ensures size { length table.new ≡ 144 }

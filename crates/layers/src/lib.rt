@@ -18,7 +18,7 @@ use bars::{CELLS, Chains, Direction, Layer, Size, Way, Ways};
 // One step without constraints: one loop without branches, which the compiler turns into vector code. Kept: an index, here and in the
 // two loops that follow it: five stretches of the layers, each at an offset of its own, would be five slices zipped by fours.
 fn spread(src: &Layer, mask: &Layer, row: usize, end: usize, dst: &mut Layer)
-    requires { (1 ≤ row) × (row ≤ 34) × (row ≤ end) × (end ≤ 1122) × (length dst.old ≡ 1156) }
+    requires { (1 ≤ row) × (row ≤ 34) × (row ≤ end) × (end ≤ 1122) }
     ensures { Filled row end (spread_at src.now mask.now row) dst.old dst.new }
 {
     for p in row..end {
@@ -31,7 +31,7 @@ fn spread(src: &Layer, mask: &Layer, row: usize, end: usize, dst: &mut Layer)
 // One step where each way to a place has a mask of its own. Kept: an index, as in `spread`; the masks of the five ways lie one after
 // the other, as `Ways` is laid out for the loop.
 fn spread_ways(src: &Layer, ways: &Ways, row: usize, end: usize, dst: &mut Layer)
-    requires { (1 ≤ row) × (row ≤ 34) × (row ≤ end) × (end ≤ 1122) × (length dst.old ≡ 1156) }
+    requires { (1 ≤ row) × (row ≤ 34) × (row ≤ end) × (end ≤ 1122) }
     ensures { Filled row end (spread_by src.now ways.now row) dst.old dst.new }
 {
     for p in row..end {
@@ -54,7 +54,7 @@ fn bump(b: u8, k: usize) -> u8
 
 // Raises the layer at the goals, in their order, so that equal goals in succession count at once.
 fn raise(layer: &mut Layer, goals: &[usize])
-    requires { (length goals.now ≤ 8) × Indexes goals.now (length goals.now) × (length layer.old ≡ 1156) }
+    requires { (length goals.now ≤ 8) × Indexes goals.now (length goals.now) }
     ensures { Raised goals.now (length goals.now) layer.old layer.new }
 {
     for (k, goal) in goals.iter().enumerate() {
@@ -133,7 +133,7 @@ fn fill_way(
     at: usize,
     doors: &mut Ways,
 )
-    requires { (row ≤ 34) × (row ≤ end) × (end ≤ 1122) × (turn ≤ 2 * row) × (at ≤ 4624) × (length doors.old ≡ 5780) }
+    requires { (row ≤ 34) × (row ≤ end) × (end ≤ 1122) × (turn ≤ 2 * row) × (at ≤ 4624) }
     ensures { Filled (at + row) (at + end) (λ q. cond (opens_by (get_or mask.now (q - at + turn - row) 0) (number_of way)) (get_or mask.now (q - at) 0) 0) doors.old doors.new }
 {
     for p in row..end {
@@ -143,7 +143,6 @@ fn fill_way(
 
 // The bytes of the way.
 fn way_doors(mask: &Layer, size: Size, direction: Direction, way: Way, doors: &mut Ways)
-    requires { length doors.old ≡ 5780 }
     ensures { Filled (1156 * number_of way + row_of size.width) (1156 * number_of way + end_of size.width size.height) (λ q. door_at mask.now (row_of size.width) (is_back direction) (number_of way) (q - 1156 * number_of way)) doors.old doors.new }
 {
     let row = size.row();
@@ -157,7 +156,6 @@ fn way_doors(mask: &Layer, size: Size, direction: Direction, way: Way, doors: &m
 // Fills in, for each of the five ways, the bytes by which labels pass to the places, forward or backward, where some places are lanes.
 // In place, since a copy would cost a short path a measurable part of its time.
 pub fn fill_doors(mask: &Layer, size: Size, direction: Direction, doors: &mut Ways)
-    requires { length doors.old ≡ 5780 }
     ensures { DoorsTo 5 mask.now (row_of size.width) (end_of size.width size.height) (is_back direction) doors.new }
 {
     for way in Way::ALL {
@@ -204,7 +202,7 @@ impl<'a> Pass<'a> {
 
     // The labels one step on, or back: over all ways where the carrier has no constraint at t, and else over those that are left.
     fn advance(&self, t: usize, src: &Layer, dst: &mut Layer)
-        requires { (t < 256) × (length dst.old ≡ 1156) }
+        requires { t < 256 }
         ensures { Advanced self.now.chains.now.size.width self.now.chains.now.size.height self.now.mask.now self.now.chains.now.carrier (constraints_of self.now.chains.now.records.now) t (is_back self.now.direction) src.now dst.old dst.new }
     {
         let row = self.chains.size.row();
@@ -224,7 +222,7 @@ impl<'a> Pass<'a> {
     // One step of a layer: the labels go one step at t, those on places barred at `on` are taken away, and the others are raised
     // by the goals. Backward the moves are turned round.
     pub fn step(&self, t: usize, on: usize, src: &Layer, dst: &mut Layer)
-        requires { (t < 256) × (on < 256) × (length dst.old ≡ 1156) }
+        requires { (t < 256) × (on < 256) }
         ensures { Stepped self.now.chains.now.size.width self.now.chains.now.size.height self.now.mask.now self.now.chains.now.carrier (constraints_of self.now.chains.now.records.now) t on (is_back self.now.direction) self.now.goals.now (length self.now.goals.now) src.now dst.old dst.new }
     {
         self.advance(t, src, dst);

@@ -36,7 +36,7 @@ fn shade(b: u8, plain: bool) -> u8
 
 // One row of the mask, of these grid bytes, at the padded place `at`.
 fn mask_row(row: &[u8], at: usize, plain: bool, mask: &mut Layer)
-    requires { (at + length row.now ≤ 1156) × (length mask.old ≡ 1156) × (plain ≡ true → Plain row.now) }
+    requires { (at + length row.now ≤ 1156) × (plain ≡ true → Plain row.now) }
     ensures { Filled at (at + length row.now) (λ p. shade_of (get_or row.now (p - at) 0)) mask.old mask.new }
 {
     for (x, b) in row.iter().enumerate() {

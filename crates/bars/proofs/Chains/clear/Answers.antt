@@ -10,7 +10,7 @@ pub loop-bar-init : goal.loop-bar-init
 loop-bar-init c =
     let a = c.args in
     clearing_begins 1156 (place_slot a.self.now.size.width) a.self.now.size.width (ap rest_of c.into_iter-bar-iterator.ensures.into_iter_gives ∙ c.at-bar-items.ensures)
-    (ours_on a.self.now.records.now a.self.now.carrier.0 a.t a.self.now.size.width a.self.now.on_grid) c.requires.1
+    (ours_on a.self.now.records.now a.self.now.carrier.0 a.t a.self.now.size.width a.self.now.on_grid) c.told-layer
 
 pub place_slot-requires : goal.place_slot-requires
 place_slot-requires c = let a = c.args in first_on 1156 (place_slot a.self.now.size.width) a.self.now.size.width c.loop-bar.invariant c.in-Some.ensures.steps
@@ -27,4 +27,4 @@ loop-bar-preserved c =
 pub returns : goal.returns
 returns c =
     let a = c.args in
-    all_cleared 1156 (place_slot a.self.now.size.width) a.self.now.size.width (ours_at a.self.now.records.now a.self.now.carrier.0 a.t) a.layer.now c.loop-bar.invariant c.requires.1 c.in-None.ensures.steps.0
+    all_cleared 1156 (place_slot a.self.now.size.width) a.self.now.size.width (ours_at a.self.now.records.now a.self.now.carrier.0 a.t) a.layer.now c.loop-bar.invariant c.told-layer c.in-None.ensures.steps.0

@@ -11,7 +11,7 @@ pub loop-bar-init : goal.loop-bar-init
 loop-bar-init c =
     let a = c.args in
     clearing_begins 5780 (move_slot a.self.now.size.width (is_back a.direction)) a.self.now.size.width (ap rest_of c.into_iter-bar-iterator.ensures.into_iter_gives ∙ c.at-bar-items.ensures)
-    (ours_on a.self.now.records.now a.self.now.carrier.0 a.t a.self.now.size.width a.self.now.on_grid) c.requires.1
+    (ours_on a.self.now.records.now a.self.now.carrier.0 a.t a.self.now.size.width a.self.now.on_grid) c.told-ways
 
 pub move_slot-requires : goal.move_slot-requires
 move_slot-requires c = let a = c.args in first_on 5780 (move_slot a.self.now.size.width (is_back a.direction)) a.self.now.size.width c.loop-bar.invariant c.in-Some.ensures.steps
@@ -28,4 +28,4 @@ loop-bar-preserved c =
 pub returns : goal.returns
 returns c =
     let a = c.args in
-    all_cleared 5780 (move_slot a.self.now.size.width (is_back a.direction)) a.self.now.size.width (ours_at a.self.now.records.now a.self.now.carrier.0 a.t) a.ways.now c.loop-bar.invariant c.requires.1 c.in-None.ensures.steps.0
+    all_cleared 5780 (move_slot a.self.now.size.width (is_back a.direction)) a.self.now.size.width (ours_at a.self.now.records.now a.self.now.carrier.0 a.t) a.ways.now c.loop-bar.invariant c.told-ways c.in-None.ensures.steps.0

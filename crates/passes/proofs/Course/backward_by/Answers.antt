@@ -22,7 +22,7 @@ pub step-requires : goal.step-requires
 step-requires c =
     let time = time_small c.args.self.now c.requires.in_time in
     let i = c.loop-t.invariant in
-    (omega (arith, time, i.0), omega (arith, time, i.0), i.2.size)
+    (omega (arith, time, i.0), omega (arith, time, i.0))
 
 pub keep-requires-in-loop-t : goal.keep-requires-in-loop-t
 keep-requires-in-loop-t c =

@@ -19,7 +19,6 @@ step-requires c =
     let v = c.loop-t.invariant in (
       omega (arith, time_small u v.in_time),
       omega (arith, c.loop-t-test.true, c.horizon-horizon.ensures.range),
-      v.spare.size,
     )
 
 pub returns-then-met : goal.returns-then-met
