@@ -1,7 +1,7 @@
 -- The least keys of the blocks of nodes: none made, one node more, a node closed, nodes that keep their keys. Assumes nothing.
 use Rattle.std.proofs.Common.{◌≡◌, refl, sym, ◌∙◌, ◌⊎◌, inl, inr, ⊎_elim, Bool, true, false, List, ℕ, ◌+◌, ◌*◌, ◌-◌, ◌/◌, ◌<◌, ◌≤◌, min, arith, ltb, length, get_or, set, replicate, length-set, get_or-set_same, get_or-set_other, ltb-true, ltb-false}
-use native.Mathlib.Decide.{ℕ_discrete}
-use lib.ListN.{length-replicate, get_or-replicate}
+use Rattle.std.proofs.Math.Decide.{ℕ_discrete}
+use Rattle.std.proofs.lemmas.List.{length-replicate, get_or-replicate}
 use Rattle.records.specs.Cut.{part}
 use Rattle.records.specs.Record.{key_at, closed_key, with_key}
 use Rattle.records.proofs.Cuts.{length_part, part_get}

@@ -1,6 +1,6 @@
 -- The first of the least keys is that of the open node that the definition takes. Assumes nothing.
 use Rattle.std.proofs.Common.{◌≡◌, refl, sym, ◌∙◌, ap, ◌⊎◌, inl, inr, ⊎_elim, Bool, true, false, List, [], map, ℕ, ◌+◌, ◌*◌, ◌<◌, ◌≤◌, min, arith, eqb, ltb, length, get_or, ne_eqb, ltb-true, ltb-false, below_more}
-use borrow.Author.Tests.{eqb-false, not-true}
+use Rattle.std.proofs.lemmas.Bool.{eqb-false, not-true}
 use Rattle.std.specs.Prelude.{Some}
 use Rattle.deck.specs.Lists.{take_least}
 use Rattle.deck.specs.Sheet.{Sheet}
