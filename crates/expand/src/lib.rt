@@ -2,14 +2,15 @@
 #![tactic(auto)]
 
 ghost use Rattle.std.specs.Prelude.{◌≡◌, List, [], ◌∷◌, ℕ, suc, ◌+◌, ◌*◌, ◌<◌, ◌≤◌, length, take};
-ghost use Rattle.deck.specs.Lists.{select};
+ghost use Rattle.deck.specs.Lists.{select, each};
 ghost use Rattle.deck.specs.Sheet.{read, count_of, carrier};
 ghost use Rattle.deck.specs.Search.{State, root_of, rest_after};
 ghost use Rattle.deck.specs.Planner.{problem, bound_by};
 ghost use Rattle.deck.specs.Calls.{path_found, path_written};
 ghost use Rattle.deck.specs.declared.Constraint.{Constraint};
 ghost use Rattle.meaning.specs.Making.{added, make_root, make_child, make_each};
-ghost use Rattle.records.specs.Record.{HasRecord, Small};
+ghost use Rattle.records.specs.Record.{HasRecord, Small, words_of};
+ghost use Rattle.nodes.specs.Listed.{recorded};
 ghost use Rattle.nodes.specs.Nodes.{node_at, constraints_at, binds};
 ghost use Rattle.meaning.specs.Constraints.{InRange};
 ghost use Rattle.nodes.specs.Stored.{Linked};
@@ -126,10 +127,10 @@ fn next_root(
 
 // CHILDREN
 
-// Takes the constraints of the child of node n by c that bind its carrier into the list.
+// Takes the constraints of the child of node n by c that bind its carrier into the list, in place of those that it has.
 fn constraints(work: &[u32], n: usize, c: Constraint, list: &mut ConstraintList)
-    requires { HasRecord work.now n × (n < 4096) × Linked work.now n × Small c }
-    ensures { list.new ≡ select (binds (carrier (bound_by c))) (c ∷ constraints_at work.now n) }
+    requires { HasRecord work.now n × (5 * (n + 1) ≤ length list.old.words.now) × Linked work.now n × Small c }
+    ensures { recorded list.new ≡ each words_of (select (binds (carrier (bound_by c))) (c ∷ constraints_at work.now n)) }
 {
     let i = nodes::bound_by(c);
     list.clear();
@@ -143,19 +144,21 @@ fn child_path(
     mask: &[u8; 1156],
     work: &mut [u32],
     spare: &mut [u32; 8192],
-    list: &mut ConstraintList,
+    list: &mut [u16],
     n: usize,
     c: Constraint,
     out: &mut [u16],
     bounds: &[u8],
 ) -> Option<usize>
     requires by_index { (made : ℕ) × (latest : ℕ) × Branch s.now mask.now work.old bounds.now made latest n c }
+    requires list_room { 20480 ≤ length list.old }
     requires room { suc (read s.now).horizon ≤ length out.old }
     ensures answer { result ≡ path_found (read s.now) (child_task (read s.now) work.old n c) (child_path (read s.now) work.old n c) }
     ensures written { out.new ≡ path_written (child_path (read s.now) work.old n c) out.old }
     ensures front { Front (read s.now).limit work.old work.new }
 {
-    constraints(work, n, c, list);
+    let mut list = ConstraintList::new(list);
+    constraints(work, n, c, &mut list);
     let i = nodes::bound_by(c);
     let parent = Record::at(work, n);
     let j = parent.task(i);
@@ -169,13 +172,14 @@ fn make_child(
     mask: &[u8; 1156],
     work: &mut [u32],
     spare: &mut [u32; 8192],
-    list: &mut ConstraintList,
+    list: &mut [u16],
     made: Made,
     n: usize,
     c: Constraint,
     bounds: &[u8],
 ) -> Option<Made>
-    requires { Branch s.now mask.now work.old bounds.now made.nodes made.latest n c }
+    requires branch { Branch s.now mask.now work.old bounds.now made.nodes made.latest n c }
+    requires list_room { 20480 ≤ length list.old }
     ensures grew { (st : State (List ℕ) Constraint) (bound : ℕ) → Held (read s.now) work.old made.nodes made.latest st → Grew (read s.now) work.new bound result (make_child (problem (read s.now)) (read s.now).limit bound (node_at (read s.now) work.old n) c st) }
     ensures same { Same (read s.now) work.old work.new made.nodes }
 {
@@ -214,7 +218,7 @@ pub fn expand(
     t: &[u16; 144],
     work: &mut [u32],
     spare: &mut [u32; 8192],
-    list: &mut ConstraintList,
+    list: &mut [u16],
     made: Made,
     n: usize,
     first: Constraint,
@@ -222,6 +226,7 @@ pub fn expand(
     bounds: &[u8],
 ) -> Option<Made>
     requires given { Given s.now mask.now t.now work.old bounds.now × (n < made.nodes) × Holding (read s.now) work.old made.nodes made.latest }
+    requires list_room { 20480 ≤ length list.old }
     requires node_at { NodeAt (read s.now) work.old n × InRange (read s.now) first × InRange (read s.now) second }
     ensures grew { (opened : Nodes) (rest : List (List ℕ)) (bound : ℕ) → Held (read s.now) work.old made.nodes made.latest (record { opened = opened; made = made.nodes; rest = rest }) → Grew (read s.now) work.new bound result (make_each (problem (read s.now)) (read s.now).limit bound (node_at (read s.now) work.old n) (first, second) rest (record { opened = opened; made = made.nodes; rest = rest_after (problem (read s.now)) (node_at (read s.now) work.old n).root rest })) }
     ensures same { Same (read s.now) work.old work.new made.nodes }

@@ -2,13 +2,14 @@
 // constraints along its links, its paths as places, and the making of roots and children.
 #![tactic(auto)]
 
-ghost use Rattle.std.specs.Prelude.{◌≡◌, List, ℕ, ◌+◌, ◌*◌, ◌<◌, ◌≤◌, ◌%◌, ◌++◌, [], ◌∷◌, length};
+ghost use Rattle.std.specs.Prelude.{◌≡◌, List, ℕ, ◌+◌, ◌*◌, ◌<◌, ◌≤◌, ◌%◌, [], ◌∷◌, length};
 ghost use Rattle.deck.specs.Lists.{sum, flat, select};
 ghost use Rattle.deck.specs.Sheet.{Sheet};
 ghost use Rattle.deck.specs.Search.{root_of, child_node};
 ghost use Rattle.deck.specs.Planner.{problem, bound_by};
 ghost use Rattle.deck.specs.Calls.{overwrite};
 ghost use Rattle.records.specs.Record.{fields_at, HasRecord, HasNodes, finishes_in, Small, with_key, closed_key};
+ghost use Rattle.nodes.specs.Listed.{Appended};
 ghost use Rattle.nodes.specs.Nodes.{LeastTo, FirstOf, block_end, Lows, Cheapest, InRange, binds, binding_at, paths_in, node_at};
 ghost use Rattle.nodes.specs.Stored.{Fits, Linked, Stored, Added, ChildOf, RootSoFar};
 
@@ -115,8 +116,9 @@ pub fn bound_by(c: Constraint) -> Carrier
 
 // Takes a constraint into the list if it binds carrier i.
 pub fn append(list: &mut ConstraintList, i: Carrier, c: Constraint)
-    requires { (length list.old < 4096) × Small c }
-    ensures { list.new ≡ list.old ++ select (binds i) (c ∷ []) }
+    requires { (5 * list.old.count + 5 ≤ length list.old.words.now) × Small c }
+    ensures appended { Appended list.old (select (binds i) (c ∷ [])) list.new }
+    ensures few { list.new.count ≤ list.old.count + 1 }
 {
     if bound_by(c) == i {
         list.push(c);
@@ -125,9 +127,10 @@ pub fn append(list: &mut ConstraintList, i: Carrier, c: Constraint)
 
 // Takes the constraints of node n that bind carrier i into the list.
 pub fn gather(work: &[u32], n: usize, i: Carrier, list: &mut ConstraintList)
-    requires n_in_bounds { HasRecord work.now n × (length list.old + n ≤ 4096) }
+    requires n_in_bounds { HasRecord work.now n × (5 * (list.old.count + n) ≤ length list.old.words.now) }
     requires linked { Linked work.now n }
-    ensures { list.new ≡ list.old ++ binding_at work.now n i }
+    ensures appended { Appended list.old (binding_at work.now n i) list.new }
+    ensures few { list.new.count ≤ list.old.count + n }
 {
     let mut at = n;
     while let Some(origin) = Record::at(work, at).origin() {

@@ -16,7 +16,7 @@ ghost use Rattle.turns.specs.Turns.{StartsOf, Turning, TurnedTo, EndedWith};
 
 use deck::{Collision, Constraint};
 use expand::Made;
-use nodes::{ConstraintList, Open};
+use nodes::Open;
 use std::ops::ControlFlow;
 
 // How the search ends: a node is the plan; no node is open; or a node was to be made and none was left, where no plan costs less than
@@ -80,7 +80,7 @@ fn expanded(
     t: &[u16; 144],
     work: &mut [u32],
     spare: &mut [u32; 8192],
-    list: &mut ConstraintList,
+    list: &mut [u16; 20480],
     made: Made,
     node: Open,
     c: Collision,
@@ -109,7 +109,7 @@ fn turn(
     t: &[u16; 144],
     work: &mut [u32],
     spare: &mut [u32; 8192],
-    list: &mut ConstraintList,
+    list: &mut [u16; 20480],
     made: Made,
     bounds: &[u8],
     lows: &mut [u32; 64],
@@ -149,7 +149,7 @@ pub fn run(
     ensures { EndedWith (read s.now) work.new result (plan_for (read s.now)) }
 {
     let limit = sheet::limit(s);
-    let mut list = ConstraintList::new();
+    let mut list = [0u16; 20480];
     let mut paths = [0u16; 3072];
     let mut lows = [records::CLOSED_KEY; 64];
     let mut made = Made {
