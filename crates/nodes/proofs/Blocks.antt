@@ -11,7 +11,7 @@ use Rattle.nodes.specs.Nodes.{LeastTo, FirstOf, LeastIn, FirstIn, block_end, Low
 -- THE KEYS OF THE NODES from..until, as a part of the workspace
 module _ (limit : ℕ) (work keys : List ℕ) (from until : ℕ) (e : keys ≡ part (512 * limit + from) (until - from) work) (o : from ≤ until)
     (h : 512 * limit + until ≤ length work) where
-  size : length keys ≡ until - from
+  pub size : length keys ≡ until - from
   size = rw e (length_part (512 * limit + from) (until - from) work (omega arith))
 
   pub key : (k : ℕ) → k < until - from → get_or keys k 0 ≡ key_at limit work (from + k)

@@ -1,4 +1,5 @@
-// The constraints of a path call, five words to each, in lent words.
+// The constraints of a path call, in lent words. Kept: five words to each, one constraint after the other, as the call takes them, from
+// C too.
 
 ghost use Rattle.std.specs.Prelude.{◌≡◌, [], ◌∷◌, ◌+◌, ◌*◌, ◌≤◌, length};
 ghost use Rattle.records.specs.Record.{Small};

@@ -22,7 +22,7 @@ use records::{Origin, Record};
 // How many nodes a block has.
 const BLOCK: usize = 64;
 
-// The open node to take next, with its cost.
+// The open node to take next, with its cost. Kept: `roots::Choice` and `expand::Made` are two numbers too, of other meanings.
 #[derive(Clone, Copy, Debug, PartialEq, Eq)]
 pub struct Open {
     pub n: usize,
@@ -96,10 +96,9 @@ pub fn enter(work: &[u32], limit: usize, from: usize, made: usize, lows: &mut [u
     requires lows { Lows limit work.now from lows.old }
     ensures { Lows limit work.now made lows.new }
 {
-    let keys = records::keys(work, limit, 0, made);
-    for n in from..made {
-        let b = n / BLOCK;
-        lows[b] = lows[b].min(keys[n]);
+    for (k, key) in records::keys(work, limit, from, made).iter().enumerate() {
+        let b = (from + k) / BLOCK;
+        lows[b] = lows[b].min(*key);
     }
 }
 
@@ -125,7 +124,8 @@ pub fn append(list: &mut ConstraintList, i: Carrier, c: Constraint)
     }
 }
 
-// Takes the constraints of node n that bind carrier i into the list.
+// Takes the constraints of node n that bind carrier i into the list. Kept: a loop along the links; the closure of `successors` would
+// repeat what `Record::at` requires, and that the links lead to earlier nodes.
 pub fn gather(work: &[u32], n: usize, i: Carrier, list: &mut ConstraintList)
     requires n_in_bounds { HasRecord work.now n × (5 * (list.old.count + n) ≤ length list.old.words.now) }
     requires linked { Linked work.now n }
@@ -141,7 +141,8 @@ pub fn gather(work: &[u32], n: usize, i: Carrier, list: &mut ConstraintList)
 
 // PATHS AS PLACES
 
-// Writes the paths of node n, carrier by carrier, over the first words of `out`.
+// Writes the paths of node n, carrier by carrier, over the first words of `out`. Kept: m beside `starts`: each caller would have to
+// cut its starts, and prove what the shorter list has.
 pub fn write_paths(
     work: &[u32],
     n: usize,
@@ -184,7 +185,8 @@ pub fn open_root(work: &mut [u32], limit: usize, made: usize)
     open_node(work, limit, made);
 }
 
-// Makes the next node: the child of node n by one more constraint, with a new path of the carrier that it binds.
+// Makes the next node: the child of node n by one more constraint, with a new path of the carrier that it binds. Kept: `last` beside
+// the path: the packed path is stated by it.
 pub fn make_child(
     work: &mut [u32],
     limit: usize,
