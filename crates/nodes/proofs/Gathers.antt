@@ -1,5 +1,5 @@
 -- The records of constraints that are gathered along the links. Assumes nothing.
-use Rattle.std.proofs.Common.{◌≡◌, refl, sym, ◌∙◌, ap, ap₂, Bool, cond, true, false, List, [], ◌∷◌, ◌++◌, map, append_assoc, append-nil, ℕ, zero, suc, ◌+◌, ◌*◌, ◌-◌, ◌/◌, ◌<◌, ◌≤◌, zero-add, arith, length, get_or, take, length-append, length-take, length-drop, length-take-le, get_or-append-add}
+use Rattle.std.proofs.Common.{◌≡◌, refl, sym, ◌∙◌, ap, ap₂, List, [], ◌∷◌, ◌++◌, map, append_assoc, append-nil, ℕ, zero, suc, ◌+◌, ◌*◌, ◌-◌, ◌/◌, ◌<◌, ◌≤◌, zero-add, arith, length, get_or, take, length-append, length-take, length-drop, length-take-le, get_or-append-add}
 use Rattle.deck.specs.Lists.{count_from, below, select, each}
 use Rattle.deck.specs.Calls.{constraints_of, constraint_at, record_word}
 use Rattle.deck.specs.declared.Carrier.{Carrier}
@@ -60,16 +60,6 @@ each-append [] r = refl
 each-append (c ∷ l) r = ap (λ (t : List ℕ). words_of c ++ t) (each-append l r) ∙ sym (append_assoc (words_of c) (each words_of l) (each words_of r))
 
 -- ONE LIST AFTER ANOTHER
-pub appended_none : (l : ConstraintList) → Appended l [] l
-appended_none l =
-    record {
-      same_words = refl;
-      room = refl;
-      words = sym (append-nil (recorded l));
-      number = omega arith;
-      constraints = sym (append-nil (constraints_of (recorded l)));
-    }
-
 pub appended_then : {a b c : ConstraintList} {cs ds : List Constraint} → Appended a cs b → Appended b ds c → Appended a (cs ++ ds) c
 appended_then {a} {b} {c} {cs} {ds} v w =
     record {
@@ -101,13 +91,6 @@ module _ (words ys : List ℕ) (count : ℕ) (c : Constraint) (h : 5 * count + 5
       same_len_mid (5 * count) (5 * count + 5 - 5 * count) words ys (simp (length-take, length-drop) (omega arith))
 
 -- ALONG THE LINKS
-pub select_one : (f : Constraint → Bool) (c : Constraint) → length (select f (c ∷ [])) ≤ 1
-select_one f c = go (f c)
-  where
-    go : (b : Bool) → length (cond b (c ∷ []) []) ≤ 1
-    go true = omega arith
-    go false = omega arith
-
 module _ (work : List ℕ) (n : ℕ) (i : Carrier) (linked : Linked work n) (at : ℕ) (b : at ≤ n) where
   links : Links (fields_at work) (suc n)
   links k h = linked.earlier k (omega arith)

@@ -15,9 +15,6 @@ use Rattle.nodes.proofs.Chains.{node_same}
 use Rattle.nodes.proofs.Costs.{cost_small}
 
 -- THE LEAST KEY
-pub least_none : (keys : List ℕ) → LeastTo keys 0 closed_key
-least_none keys = record { low = omega arith; least = λ k h. absurd (omega arith); found = inl refl }
-
 pub least_more : (keys : List ℕ) (i r v : ℕ) → v ≡ min r (get_or keys i 0) → LeastTo keys i r → LeastTo keys (i + 1) v
 least_more keys i r v e l =
     record {
