@@ -1,5 +1,5 @@
 -- The records of constraints that are gathered along the links. Assumes nothing.
-use Rattle.std.proofs.Common.{◌≡◌, refl, sym, ◌∙◌, ap, ap₂, List, [], ◌∷◌, ◌++◌, map, append_assoc, append-nil, ℕ, zero, suc, ◌+◌, ◌*◌, ◌-◌, ◌/◌, ◌<◌, ◌≤◌, zero-add, arith, length, get_or, take, length-append, length-take, length-drop, length-take-le, get_or-append-add}
+use Rattle.std.proofs.Common.{◌≡◌, refl, sym, ◌∙◌, ap, ap₂, List, [], ◌∷◌, ◌++◌, map, append_assoc, append-nil, ℕ, zero, suc, ◌+◌, ◌*◌, ◌-◌, ◌/◌, ◌<◌, ◌≤◌, zero-add, arith, length, get_or, take, length-append, length-take-le, get_or-append-add}
 use Rattle.deck.specs.Lists.{count_from, below, select, each}
 use Rattle.deck.specs.Calls.{constraints_of, constraint_at, record_word}
 use Rattle.deck.specs.declared.Carrier.{Carrier}
@@ -8,7 +8,7 @@ use Rattle.std.specs.Prelude.{Some, None}
 use Rattle.std.proofs.lemmas.List.{get_or_append_left}
 use Rattle.std.proofs.lemmas.Option.{same_Some, none-some}
 use Rattle.std.proofs.lemmas.Slice.{take-put_mid}
-use borrow.Rule.Slice.PartMut.{put_mid, same_len_mid}
+use borrow.Rule.Slice.PartMut.{put_mid}
 use Rattle.records.specs.Record.{fields_at, link_in, own_in, origin_in, origin_of, constraint_in, words_of, Small}
 use Rattle.records.proofs.Words.{held_again, length_words}
 use Rattle.nodes.specs.Nodes.{constraints_at, binds, binding_at}
@@ -84,11 +84,6 @@ module _ (words ys : List ℕ) (count : ℕ) (c : Constraint) (h : 5 * count + 5
 
   pub constraints_more : constraints_of (take (5 * (count + 1)) (put_mid (5 * count) (5 * count + 5 - 5 * count) words ys)) ≡ constraints_of (take (5 * count) words) ++ (c ∷ [])
   constraints_more = ap constraints_of words_more ∙ records_append (take (5 * count) words) count (c ∷ []) (length-take-le (5 * count) words (omega arith))
-
-  pub room_more : length (put_mid (5 * count) (5 * count + 5 - 5 * count) words ys) ≡ length words
-  room_more =
-      let l : length ys ≡ 5 = ap length e ∙ length_words c in
-      same_len_mid (5 * count) (5 * count + 5 - 5 * count) words ys (simp (length-take, length-drop) (omega arith))
 
 -- ALONG THE LINKS
 module _ (work : List ℕ) (n : ℕ) (i : Carrier) (linked : Linked work n) (at : ℕ) (b : at ≤ n) where

@@ -33,6 +33,7 @@ impl<'a> ConstraintList<'a> {
         self.count = 0;
     }
 
+    #[tactic(auto, using(crate::proofs::Gathers::words_more, crate::proofs::Gathers::constraints_more))]
     pub fn push(&mut self, c: Constraint)
         requires { (5 * self.old.count + 5 ≤ length self.old.words.now) × Small c }
         ensures { Appended self.old (c ∷ []) self.new }
