@@ -34,6 +34,7 @@ pub struct Open {
 // Kept: words, limit, nodes made and least keys as parameters: others write the words between these calls, so no type owns both.
 
 // The least of the keys: one pass without a branch.
+#[tactic(auto, using(crate::proofs::Picks::least_more))]
 fn least(keys: &[u32]) -> u32
     ensures { LeastTo keys.now (length keys.now) result }
 {
