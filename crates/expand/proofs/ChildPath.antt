@@ -145,14 +145,11 @@ module _ {g : Given} {work : List ℕ} {made latest n : ℕ} {c : Constraint} (x
       all_fit k (here e) = rw e x.good
       all_fit k (there u) = x.node.fits k u
 
-  -- with the carrier, the list, its records, the parent's record and the task as they are read
-  module _ {i : Carrier} (ei : i.0 ≡ bound_by c) {list : List Constraint} (el : list ≡ own) {rs : List ℕ} (er : rs ≡ each words_of list) {fs : List (List ℕ)} (ef : fs ≡ fields_at work n)
+  -- with the carrier, the records of the list, the parent's record and the task as they are read
+  module _ {i : Carrier} (ei : i.0 ≡ bound_by c) {rs : List ℕ} (er : rs ≡ each words_of own) {fs : List (List ℕ)} (ef : fs ≡ fields_at work n)
       {j : Task} (ej : j ≡ task (get_or (tasks_in fs) i.0 0)) where
     carrier_is : i ≡ bound_carrier
     carrier_is = ap carrier ei
-
-    records_are : rs ≡ each words_of own
-    records_are = er ∙ ap (each words_of) el
 
     task_is : j ≡ child_task d work n c
     task_is = (rw (ef, ei) at ej) ∙ ap task (task_read d work n (bound_by c) (bound_below d c x.good))
@@ -167,14 +164,14 @@ module _ {g : Given} {work : List ℕ} {made latest n : ℕ} {c : Constraint} (x
       carrier_in = rw ei (bound_below d c x.good);
       task_in = task_in;
       masked = g.masked;
-      records = rw records_are (good_records_lem d own own_good own_few);
+      records = rw er (good_records_lem d own own_good own_few);
     }
 
     -- under its records is under its constraints
     pub child_least : least_path d i j (constraints_of rs) ≡ child_path d work n c
     unfolding node_of
     child_least =
-        rw (carrier_is, records_are, task_is)
+        rw (carrier_is, er, task_is)
         (ap (least_path d bound_carrier (child_task d work n c)) (records_of own)
         ∙ sym (least_bound d bound_carrier (child_task d work n c) (c ∷ constraints_at work n)))
 

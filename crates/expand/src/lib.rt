@@ -1,15 +1,16 @@
 // Making the nodes of an expansion in the workspace: the root of the next assignment, the children of a node.
 #![tactic(auto)]
 
-ghost use Rattle.std.specs.Prelude.{◌≡◌, List, [], ◌∷◌, ℕ, suc, ◌+◌, ◌*◌, ◌<◌, ◌≤◌, length};
-ghost use Rattle.deck.specs.Lists.{select};
+ghost use Rattle.std.specs.Prelude.{◌≡◌, List, [], ◌∷◌, ℕ, suc, ◌+◌, ◌*◌, ◌<◌, ◌≤◌, length, take};
+ghost use Rattle.deck.specs.Lists.{select, each};
 ghost use Rattle.deck.specs.Sheet.{carrier};
 ghost use Rattle.deck.specs.Search.{State, root_of, rest_after};
 ghost use Rattle.deck.specs.Planner.{problem, bound_by};
 ghost use Rattle.deck.specs.Calls.{path_found, path_written};
 ghost use Rattle.deck.specs.declared.Constraint.{Constraint};
 ghost use Rattle.meaning.specs.Making.{added, make_root, make_child, make_each};
-ghost use Rattle.records.specs.Record.{HasRecord, Small};
+ghost use Rattle.records.specs.Record.{HasRecord, Small, words_of};
+ghost use Rattle.nodes.specs.Listed.{recorded};
 ghost use Rattle.nodes.specs.Nodes.{node_at, constraints_at, binds};
 ghost use Rattle.meaning.specs.Constraints.{InRange};
 ghost use Rattle.nodes.specs.Stored.{Linked};
@@ -109,10 +110,10 @@ fn next_root(
 
 // CHILDREN
 
-// Takes the constraints of the child of node n by c that bind its carrier into the list.
+// Takes the constraints of the child of node n by c that bind its carrier into the list, in place of those that it has.
 fn constraints(work: &[u32], n: usize, c: Constraint, list: &mut ConstraintList)
-    requires { HasRecord work.now n × (n < 4096) × Linked work.now n × Small c }
-    ensures { list.new ≡ select (binds (carrier (bound_by c))) (c ∷ constraints_at work.now n) }
+    requires { HasRecord work.now n × (5 * (n + 1) ≤ length list.old.words.now) × Linked work.now n × Small c }
+    ensures { recorded list.new ≡ each words_of (select (binds (carrier (bound_by c))) (c ∷ constraints_at work.now n)) }
 {
     let i = nodes::bound_by(c);
     list.clear();
@@ -125,18 +126,20 @@ fn child_path(
     given: &Given,
     work: &mut [u32],
     spare: &mut [u32; 8192],
-    list: &mut ConstraintList,
+    list: &mut [u16],
     n: usize,
     c: Constraint,
     out: &mut [u16],
 ) -> Option<usize>
     requires by_index { (made : ℕ) × (latest : ℕ) × Branch given.now work.old made latest n c }
+    requires list_room { 20480 ≤ length list.old }
     requires room { suc (sheet_of given.now).horizon ≤ length out.old }
     ensures answer { result ≡ path_found (sheet_of given.now) (child_task (sheet_of given.now) work.old n c) (child_path (sheet_of given.now) work.old n c) }
     ensures written { out.new ≡ path_written (child_path (sheet_of given.now) work.old n c) out.old }
     ensures front { Front (sheet_of given.now).limit work.old work.new }
 {
-    constraints(work, n, c, list);
+    let mut list = ConstraintList::new(list);
+    constraints(work, n, c, &mut list);
     let i = nodes::bound_by(c);
     let parent = Record::at(work, n);
     let j = parent.task(i);
@@ -156,12 +159,13 @@ fn make_child(
     given: &Given,
     work: &mut [u32],
     spare: &mut [u32; 8192],
-    list: &mut ConstraintList,
+    list: &mut [u16],
     made: Made,
     n: usize,
     c: Constraint,
 ) -> Option<Made>
-    requires { Branch given.now work.old made.nodes made.latest n c }
+    requires branch { Branch given.now work.old made.nodes made.latest n c }
+    requires list_room { 20480 ≤ length list.old }
     ensures grew { (st : State (List ℕ) Constraint) (bound : ℕ) → Held (sheet_of given.now) work.old made.nodes made.latest st → Grew (sheet_of given.now) work.new bound result (make_child (problem (sheet_of given.now)) (sheet_of given.now).limit bound (node_at (sheet_of given.now) work.old n) c st) }
     ensures same { Same (sheet_of given.now) work.old work.new made.nodes }
 {
@@ -198,13 +202,14 @@ pub fn expand(
     given: &Given,
     work: &mut [u32],
     spare: &mut [u32; 8192],
-    list: &mut ConstraintList,
+    list: &mut [u16],
     made: Made,
     n: usize,
     first: Constraint,
     second: Constraint,
 ) -> Option<Made>
     requires room { Room given.now work.old }
+    requires list_room { 20480 ≤ length list.old }
     requires below { n < made.nodes }
     requires held { Holding (sheet_of given.now) work.old made.nodes made.latest }
     requires node_at { NodeAt (sheet_of given.now) work.old n × InRange (sheet_of given.now) first × InRange (sheet_of given.now) second }

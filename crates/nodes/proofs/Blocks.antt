@@ -1,7 +1,7 @@
 -- The least keys of the blocks of nodes: none made, one node more, a node closed, nodes that keep their keys. Assumes nothing.
 use Rattle.std.proofs.Common.{◌≡◌, refl, sym, ◌∙◌, ◌⊎◌, inl, inr, ⊎_elim, Bool, true, false, List, ℕ, ◌+◌, ◌*◌, ◌-◌, ◌/◌, ◌<◌, ◌≤◌, min, arith, ltb, length, get_or, set, replicate, length-set, get_or-set_same, get_or-set_other, ltb-true, ltb-false}
-use native.Mathlib.Decide.{ℕ_discrete}
-use lib.ListN.{length-replicate, get_or-replicate}
+use Rattle.std.proofs.Math.Decide.{ℕ_discrete}
+use Rattle.std.proofs.lemmas.List.{length-replicate, get_or-replicate}
 use Rattle.records.specs.Cut.{part}
 use Rattle.records.specs.Record.{key_at, closed_key, with_key}
 use Rattle.records.proofs.Cuts.{length_part, part_get}
@@ -11,7 +11,7 @@ use Rattle.nodes.specs.Nodes.{LeastTo, FirstOf, LeastIn, FirstIn, block_end, Low
 -- THE KEYS OF THE NODES from..until, as a part of the workspace
 module _ (limit : ℕ) (work keys : List ℕ) (from until : ℕ) (e : keys ≡ part (512 * limit + from) (until - from) work) (o : from ≤ until)
     (h : 512 * limit + until ≤ length work) where
-  size : length keys ≡ until - from
+  pub size : length keys ≡ until - from
   size = rw e (length_part (512 * limit + from) (until - from) work (omega arith))
 
   pub key : (k : ℕ) → k < until - from → get_or keys k 0 ≡ key_at limit work (from + k)

@@ -1,18 +1,19 @@
 -- The records of constraints that are gathered along the links. Assumes nothing.
-use Rattle.std.proofs.Common.{◌≡◌, refl, sym, ◌∙◌, ap, ap₂, Bool, cond, true, false, List, [], ◌∷◌, ◌++◌, map, append_assoc, append-nil, ℕ, zero, suc, ◌+◌, ◌*◌, ◌-◌, ◌/◌, ◌<◌, ◌≤◌, zero-add, arith, length, get_or, take, length-append, length-take-le, get_or-append-add}
-use lib.ListN.{get_or-append}
+use Rattle.std.proofs.Common.{◌≡◌, refl, sym, ◌∙◌, ap, ap₂, List, [], ◌∷◌, ◌++◌, map, append_assoc, append-nil, ℕ, zero, suc, ◌+◌, ◌*◌, ◌-◌, ◌/◌, ◌<◌, ◌≤◌, zero-add, arith, length, get_or, take, length-append, length-take-le, get_or-append-add}
 use Rattle.deck.specs.Lists.{count_from, below, select, each}
 use Rattle.deck.specs.Calls.{constraints_of, constraint_at, record_word}
 use Rattle.deck.specs.declared.Carrier.{Carrier}
 use Rattle.deck.specs.declared.Constraint.{Constraint}
 use Rattle.std.specs.Prelude.{Some, None}
+use Rattle.std.proofs.lemmas.List.{get_or_append_left}
 use Rattle.std.proofs.lemmas.Option.{same_Some, none-some}
 use Rattle.std.proofs.lemmas.Slice.{take-put_mid}
 use borrow.Rule.Slice.PartMut.{put_mid}
 use Rattle.records.specs.Record.{fields_at, link_in, own_in, origin_in, origin_of, constraint_in, words_of, Small}
 use Rattle.records.proofs.Words.{held_again, length_words}
 use Rattle.nodes.specs.Nodes.{constraints_at, binds, binding_at}
-use Rattle.nodes.specs.Listed.{listed, Recorded}
+use Rattle.nodes.specs.Listed.{recorded, Appended}
+use Rattle.nodes.specs.declared.constraint_list.ConstraintList.{ConstraintList}
 use Rattle.records.specs.declared.Origin.{Origin}
 use Rattle.nodes.specs.Stored.{Linked}
 use Rattle.std.proofs.lemmas.List.{map-append}
@@ -36,7 +37,7 @@ record_snoc rs k c l =
     ∙ ap (λ (x : ℕ). map (constraint_at rs) (below x) ++ (c ∷ [])) (sym m)
   where
     word : (j n : ℕ) → j < k → n < 5 → record_word (rs ++ words_of c) j n ≡ record_word rs j n
-    word j n h g = get_or-append rs (words_of c) 0 (5 * j + n) (omega arith)
+    word j n h g = get_or_append_left rs (words_of c) 0 (5 * j + n) (omega arith)
 
     old : (j : ℕ) → j < k → constraint_at (rs ++ words_of c) j ≡ constraint_at rs j
     old j h = rw (word j 0 h (omega arith), word j 1 h (omega arith), word j 2 h (omega arith), word j 3 h (omega arith), word j 4 h (omega arith))
@@ -58,49 +59,33 @@ each-append : (l r : List Constraint) → each words_of (l ++ r) ≡ each words_
 each-append [] r = refl
 each-append (c ∷ l) r = ap (λ (t : List ℕ). words_of c ++ t) (each-append l r) ∙ sym (append_assoc (words_of c) (each words_of l) (each words_of r))
 
-length_each : (cs : List Constraint) → length (each words_of cs) ≡ 5 * length cs
-length_each [] = refl
-length_each (c ∷ cs) = length-append (words_of c) (each words_of cs) ∙ omega (arith, length_words c, length_each cs)
-
--- as many constraints as records
-pub length_listed : (words : List ℕ) (count : ℕ) → 5 * count ≤ length words → Recorded words count → length (listed words count) ≡ count
-length_listed words count h r = omega (arith, length-take-le (5 * count) words h, ap length r.kept, length_each (listed words count))
-
-pub recorded_none : (words : List ℕ) → Recorded words 0
-unfolding constraints_of
-recorded_none words = record { few = omega arith; kept = refl }
-
-pub listed_none : (words : List ℕ) → listed words 0 ≡ []
-unfolding constraints_of
-listed_none words = refl
+-- ONE LIST AFTER ANOTHER
+pub appended_then : {a b c : ConstraintList} {cs ds : List Constraint} → Appended a cs b → Appended b ds c → Appended a (cs ++ ds) c
+appended_then {a} {b} {c} {cs} {ds} v w =
+    record {
+      same_words = w.same_words ∙ v.same_words;
+      room = w.room ∙ v.room;
+      words =
+          w.words ∙ ap (λ (t : List ℕ). t ++ each words_of ds) v.words
+          ∙ append_assoc (recorded a) (each words_of cs) (each words_of ds)
+          ∙ ap (λ (t : List ℕ). recorded a ++ t) (sym (each-append cs ds));
+      number = omega (arith, w.number, v.number, length-append cs ds);
+      constraints =
+          w.constraints ∙ ap (λ (t : List Constraint). t ++ ds) v.constraints ∙ append_assoc (constraints_of (recorded a)) cs ds;
+    }
 
 -- one record more
-module _ (words ys : List ℕ) (count : ℕ) (c : Constraint) (h : 5 * count + 5 ≤ length words) (r : Recorded words count) (e : ys ≡ words_of c) where
-  front : take (5 * (count + 1)) (put_mid (5 * count) (5 * count + 5 - 5 * count) words ys) ≡ take (5 * count) words ++ words_of c
-  front =
+module _ (words ys : List ℕ) (count : ℕ) (c : Constraint) (h : 5 * count + 5 ≤ length words) (e : ys ≡ words_of c) where
+  pub words_more : take (5 * (count + 1)) (put_mid (5 * count) (5 * count + 5 - 5 * count) words ys) ≡ take (5 * count) words ++ each words_of (c ∷ [])
+  words_more =
       let l : length ys ≡ 5 = ap length e ∙ length_words c in
-      take-put_mid (5 * count) (5 * count + 5 - 5 * count) words ys (5 * (count + 1)) (omega arith) (omega arith) ∙ rw e
+      take-put_mid (5 * count) (5 * count + 5 - 5 * count) words ys (5 * (count + 1)) (omega arith) (omega arith)
+      ∙ ap (λ (t : List ℕ). take (5 * count) words ++ t) (e ∙ sym (append-nil (words_of c)))
 
-  pub listed_more : listed (put_mid (5 * count) (5 * count + 5 - 5 * count) words ys) (count + 1) ≡ listed words count ++ (c ∷ [])
-  listed_more = ap constraints_of front ∙ record_snoc (take (5 * count) words) count c (length-take-le (5 * count) words (omega arith))
-
-  pub recorded_more : count < 4096 → Recorded (put_mid (5 * count) (5 * count + 5 - 5 * count) words ys) (count + 1)
-  recorded_more b =
-      record {
-        few = omega arith;
-        kept =
-            front ∙ ap (λ (t : List ℕ). t ++ words_of c) r.kept
-            ∙ sym (ap (each words_of) listed_more ∙ each-append (listed words count) (c ∷ []) ∙ ap (λ (t : List ℕ). each words_of (listed words count) ++ t) (append-nil (words_of c)));
-      }
+  pub constraints_more : constraints_of (take (5 * (count + 1)) (put_mid (5 * count) (5 * count + 5 - 5 * count) words ys)) ≡ constraints_of (take (5 * count) words) ++ (c ∷ [])
+  constraints_more = ap constraints_of words_more ∙ records_append (take (5 * count) words) count (c ∷ []) (length-take-le (5 * count) words (omega arith))
 
 -- ALONG THE LINKS
-pub select_one : (f : Constraint → Bool) (c : Constraint) → length (select f (c ∷ [])) ≤ 1
-select_one f c = go (f c)
-  where
-    go : (b : Bool) → length (cond b (c ∷ []) []) ≤ 1
-    go true = omega arith
-    go false = omega arith
-
 module _ (work : List ℕ) (n : ℕ) (i : Carrier) (linked : Linked work n) (at : ℕ) (b : at ≤ n) where
   links : Links (fields_at work) (suc n)
   links k h = linked.earlier k (omega arith)

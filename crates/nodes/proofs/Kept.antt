@@ -1,6 +1,6 @@
 -- What leaves the store as it is: closing a node, slots of a root, words past the keys. Assumes nothing.
 use Rattle.std.proofs.Common.{◌≡◌, refl, sym, ◌∙◌, ap, ap₂, List, map, ℕ, suc, ◌+◌, ◌*◌, ◌<◌, ◌≤◌, arith, length, get_or, take}
-use native.Mathlib.Decide.{ℕ_discrete}
+use Rattle.std.proofs.Math.Decide.{ℕ_discrete}
 use Rattle.deck.specs.Sheet.{Sheet}
 use Rattle.deck.specs.Search.{flowtime}
 use Rattle.deck.specs.Planner.{problem}

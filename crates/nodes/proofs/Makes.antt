@@ -2,8 +2,9 @@
 use Rattle.std.specs.Prelude.{Some}
 use Rattle.std.proofs.Common.{◌≡◌, refl, sym, ◌∙◌, ap, ap₂, subst, Bool, true, false, List, [], ◌∷◌, ℕ, ◌+◌, ◌*◌, ◌-◌, ◌<◌, ◌≤◌, ◌%◌, zero-add, add-one, arith, eqb, ltb, length, get_or, set, take, replicate, length-append, take_at, get_or-append-add, ne_eqb, ltb-true, ltb-false}
 use mathlib.Core.List.{Memᴰ as Mem}
-use native.Mathlib.Decide.{ℕ_discrete}
-use lib.ListN.{length-replicate, get_or-replicate, get_or-append, get_or-eq_default}
+use Rattle.std.proofs.Math.Decide.{ℕ_discrete}
+use Rattle.std.proofs.Math.ListN.{get_or-eq_default}
+use Rattle.std.proofs.lemmas.List.{length-replicate, get_or-replicate, get_or_append_left}
 use Rattle.deck.specs.Lists.{sum}
 use Rattle.deck.specs.Sheet.{Sheet, carrier, task, start_of}
 use Rattle.deck.specs.Paths.{walks, least_path, finish_of}
@@ -211,7 +212,7 @@ module _ (d : Sheet) where
     root = fields_at work made
 
     root_task : (k : ℕ) → k < d.count → get_or (tasks_in root) k 0 ≡ get_or a k 0
-    root_task k h = rw r.tasks (get_or-append a (replicate (12 - length a) 255) 0 k (omega (arith, r.long)))
+    root_task k h = rw r.tasks (get_or_append_left a (replicate (12 - length a) 255) 0 k (omega (arith, r.long)))
 
     past_task : (k : ℕ) → d.count ≤ k → k < 12 → get_or (tasks_in root) k 0 ≡ 255
     past_task k h b =

@@ -1,6 +1,6 @@
 -- The first of the least keys is that of the open node that the definition takes. Assumes nothing.
 use Rattle.std.proofs.Common.{◌≡◌, refl, sym, ◌∙◌, ap, ◌⊎◌, inl, inr, ⊎_elim, Bool, true, false, List, [], map, ℕ, ◌+◌, ◌*◌, ◌<◌, ◌≤◌, min, arith, eqb, ltb, length, get_or, ne_eqb, ltb-true, ltb-false, below_more}
-use borrow.Author.Tests.{eqb-false, not-true}
+use Rattle.std.proofs.lemmas.Bool.{eqb-false, not-true}
 use Rattle.std.specs.Prelude.{Some}
 use Rattle.deck.specs.Lists.{take_least}
 use Rattle.deck.specs.Sheet.{Sheet}
@@ -15,9 +15,6 @@ use Rattle.nodes.proofs.Chains.{node_same}
 use Rattle.nodes.proofs.Costs.{cost_small}
 
 -- THE LEAST KEY
-pub least_none : (keys : List ℕ) → LeastTo keys 0 closed_key
-least_none keys = record { low = omega arith; least = λ k h. absurd (omega arith); found = inl refl }
-
 pub least_more : (keys : List ℕ) (i r v : ℕ) → v ≡ min r (get_or keys i 0) → LeastTo keys i r → LeastTo keys (i + 1) v
 least_more keys i r v e l =
     record {

@@ -1,5 +1,5 @@
 -- The paths of a node written carrier by carrier. Assumes nothing.
-use Rattle.std.proofs.Common.{◌≡◌, refl, sym, ◌∙◌, ap, List, [], ◌∷◌, ◌++◌, map, append_assoc, append-nil, ℕ, zero, suc, ◌+◌, ◌*◌, ◌-◌, ◌<◌, ◌≤◌, suc-mul, mul-le-mul_right, zero-add, add-one, arith, length, get_or, drop, length-append, take_at, drop_at, drop-drop}
+use Rattle.std.proofs.Common.{◌≡◌, sym, ◌∙◌, ap, List, [], ◌∷◌, ◌++◌, map, append_assoc, append-nil, ℕ, zero, suc, ◌+◌, ◌*◌, ◌-◌, suc-mul, zero-add, add-one, arith, length, get_or, drop, length-append, take_at, drop_at, drop-drop}
 use Rattle.deck.specs.Lists.{count_from, flat}
 use Rattle.deck.specs.Calls.{overwrite}
 use Rattle.pack.proofs.Trips.{length_unpack}
@@ -12,10 +12,6 @@ use Rattle.nodes.proofs.Tables.{count_snoc}
 flat_snoc : (l : List (List ℕ)) (x : List ℕ) → flat (l ++ (x ∷ [])) ≡ flat l ++ x
 flat_snoc [] x = append-nil x
 flat_snoc (y ∷ l) x = ap (λ (t : List ℕ). y ++ t) (flat_snoc l x) ∙ sym (append_assoc y (flat l) x)
-
--- row i ends inside the rows of m carriers
-pub row_fits : (i m size n : ℕ) → i < m → m * size ≤ n → i * size + size ≤ n
-row_fits i m size n h g = omega (arith, suc-mul i size, mul-le-mul_right size h)
 
 module _ (w last : ℕ) (starts : List ℕ) (fs : List (List ℕ)) where
   abbrev pub rows_to : ℕ → List ℕ
@@ -34,9 +30,6 @@ module _ (w last : ℕ) (starts : List ℕ) (fs : List (List ℕ)) where
       ap length (rows_snoc i) ∙ length-append (rows_to i) (path_in w last starts fs i)
       ∙ rw (length_rows i, length_unpack w last (packed_in fs i) (get_or starts i 0)) (sym (suc-mul i (last + 1)))
 
-  pub rows_none : (out : List ℕ) → out ≡ overwrite (rows_to 0) out
-  rows_none out = refl
-
   -- one row more
   pub rows_more : (i : ℕ) (before out ys : List ℕ) → ys ≡ path_in w last starts fs i → out ≡ overwrite (rows_to i) before
       → put (i * (last + 1)) (i * (last + 1) + (last + 1) - i * (last + 1)) ys out ≡ overwrite (rows_to (i + 1)) before
@@ -49,6 +42,3 @@ module _ (w last : ℕ) (starts : List ℕ) (fs : List (List ℕ)) where
       let r : List ℕ = drop (length (rows_to i)) before in
       rw (q, d, e, take_at (rows_to i) r (i * (last + 1)) l, drop_at (rows_to i) r (i * (last + 1)) l, add-one i, rows_snoc i, m, l, drop-drop (last + 1) (i * (last + 1)) before)
       (sym (append_assoc (rows_to i) (path_in w last starts fs i) (drop (i * (last + 1) + (last + 1)) before)))
-
-  pub rows_all : (i m : ℕ) (before out : List ℕ) → i ≡ m → out ≡ overwrite (rows_to i) before → out ≡ overwrite (rows_to m) before
-  rows_all i m before out e q = q ∙ rw e

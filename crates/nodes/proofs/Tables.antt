@@ -2,8 +2,8 @@
 use Rattle.std.specs.Prelude.{Option, None, Some}
 use Rattle.std.proofs.Common.{◌≡◌, refl, ◌∙◌, ap, Bool, true, false, cond, List, [], ◌∷◌, ◌++◌, map, ℕ, zero, suc, ◌+◌, ◌*◌, ◌<◌, ◌≤◌, add-zero, arith, length, get_or, set, leb, le-leb}
 use mathlib.Core.List.{Memᴰ as Mem}
-use native.Mathlib.Decide.{ℕ_discrete}
-use borrow.Author.Tests.{lt-leb}
+use Rattle.std.proofs.Math.Decide.{ℕ_discrete}
+use Rattle.std.proofs.lemmas.Bool.{lt-leb}
 use Rattle.deck.specs.Lists.{count_from, sum, select, take_least, pick_least}
 use Rattle.meaning.proofs.Tests.{is_true}
 use Rattle.meaning.proofs.Lists.{mem_select, mem_count_from, Took, took}

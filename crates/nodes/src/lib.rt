@@ -2,13 +2,14 @@
 // constraints along its links, its paths as places, and the making of roots and children.
 #![tactic(auto)]
 
-ghost use Rattle.std.specs.Prelude.{◌≡◌, List, ℕ, ◌+◌, ◌*◌, ◌<◌, ◌≤◌, ◌%◌, ◌++◌, [], ◌∷◌, length};
+ghost use Rattle.std.specs.Prelude.{◌≡◌, List, ℕ, ◌+◌, ◌*◌, ◌<◌, ◌≤◌, ◌%◌, [], ◌∷◌, length};
 ghost use Rattle.deck.specs.Lists.{sum, flat, select};
 ghost use Rattle.deck.specs.Sheet.{Sheet};
 ghost use Rattle.deck.specs.Search.{root_of, child_node};
 ghost use Rattle.deck.specs.Planner.{problem, bound_by};
 ghost use Rattle.deck.specs.Calls.{overwrite};
 ghost use Rattle.records.specs.Record.{fields_at, HasRecord, HasNodes, finishes_in, Small, with_key, closed_key};
+ghost use Rattle.nodes.specs.Listed.{Appended};
 ghost use Rattle.nodes.specs.Nodes.{LeastTo, FirstOf, block_end, Lows, Cheapest, InRange, binds, binding_at, paths_in, node_at};
 ghost use Rattle.nodes.specs.Stored.{Fits, Linked, Stored, Added, ChildOf, RootSoFar};
 
@@ -21,7 +22,7 @@ use records::{Origin, Record};
 // How many nodes a block has.
 const BLOCK: usize = 64;
 
-// The open node to take next, with its cost.
+// The open node to take next, with its cost. Kept: `roots::Choice` and `expand::Made` are two numbers too, of other meanings.
 #[derive(Clone, Copy, Debug, PartialEq, Eq)]
 pub struct Open {
     pub n: usize,
@@ -33,6 +34,7 @@ pub struct Open {
 // Kept: words, limit, nodes made and least keys as parameters: others write the words between these calls, so no type owns both.
 
 // The least of the keys: one pass without a branch.
+#[tactic(auto, using(crate::proofs::Picks::least_more))]
 fn least(keys: &[u32]) -> u32
     ensures { LeastTo keys.now (length keys.now) result }
 {
@@ -95,10 +97,9 @@ pub fn enter(work: &[u32], limit: usize, from: usize, made: usize, lows: &mut [u
     requires lows { Lows limit work.now from lows.old }
     ensures { Lows limit work.now made lows.new }
 {
-    let keys = records::keys(work, limit, 0, made);
-    for n in from..made {
-        let b = n / BLOCK;
-        lows[b] = lows[b].min(keys[n]);
+    for (k, key) in records::keys(work, limit, from, made).iter().enumerate() {
+        let b = (from + k) / BLOCK;
+        lows[b] = lows[b].min(*key);
     }
 }
 
@@ -115,19 +116,22 @@ pub fn bound_by(c: Constraint) -> Carrier
 
 // Takes a constraint into the list if it binds carrier i.
 pub fn append(list: &mut ConstraintList, i: Carrier, c: Constraint)
-    requires { (length list.old < 4096) × Small c }
-    ensures { list.new ≡ list.old ++ select (binds i) (c ∷ []) }
+    requires { (5 * list.old.count + 5 ≤ length list.old.words.now) × Small c }
+    ensures appended { Appended list.old (select (binds i) (c ∷ [])) list.new }
+    ensures few { list.new.count ≤ list.old.count + 1 }
 {
     if bound_by(c) == i {
         list.push(c);
     }
 }
 
-// Takes the constraints of node n that bind carrier i into the list.
+// Takes the constraints of node n that bind carrier i into the list. Kept: a loop along the links; the closure of `successors` would
+// repeat what `Record::at` requires, and that the links lead to earlier nodes.
 pub fn gather(work: &[u32], n: usize, i: Carrier, list: &mut ConstraintList)
-    requires n_in_bounds { HasRecord work.now n × (length list.old + n ≤ 4096) }
+    requires n_in_bounds { HasRecord work.now n × (5 * (list.old.count + n) ≤ length list.old.words.now) }
     requires linked { Linked work.now n }
-    ensures { list.new ≡ list.old ++ binding_at work.now n i }
+    ensures appended { Appended list.old (binding_at work.now n i) list.new }
+    ensures few { list.new.count ≤ list.old.count + n }
 {
     let mut at = n;
     while let Some(origin) = Record::at(work, at).origin() {
@@ -138,7 +142,8 @@ pub fn gather(work: &[u32], n: usize, i: Carrier, list: &mut ConstraintList)
 
 // PATHS AS PLACES
 
-// Writes the paths of node n, carrier by carrier, over the first words of `out`.
+// Writes the paths of node n, carrier by carrier, over the first words of `out`. Kept: m beside `starts`: each caller would have to
+// cut its starts, and prove what the shorter list has.
 pub fn write_paths(
     work: &[u32],
     n: usize,
@@ -181,7 +186,8 @@ pub fn open_root(work: &mut [u32], limit: usize, made: usize)
     open_node(work, limit, made);
 }
 
-// Makes the next node: the child of node n by one more constraint, with a new path of the carrier that it binds.
+// Makes the next node: the child of node n by one more constraint, with a new path of the carrier that it binds. Kept: `last` beside
+// the path: the packed path is stated by it.
 pub fn make_child(
     work: &mut [u32],
     limit: usize,

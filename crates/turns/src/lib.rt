@@ -16,7 +16,7 @@ ghost use Rattle.turns.specs.Turns.{Turning, TurnedTo, EndedWith};
 
 use deck::{Collision, Constraint};
 use expand::{Given, Made};
-use nodes::{ConstraintList, Open};
+use nodes::Open;
 use std::ops::ControlFlow;
 
 // How the search ends: a node is the plan; no node is open; or a node was to be made and none was left, where no plan costs less than
@@ -73,7 +73,7 @@ fn expanded(
     given: &Given,
     work: &mut [u32],
     spare: &mut [u32; 8192],
-    list: &mut ConstraintList,
+    list: &mut [u16; 20480],
     made: Made,
     node: Open,
     c: Collision,
@@ -98,7 +98,7 @@ fn turn(
     given: &Given,
     work: &mut [u32],
     spare: &mut [u32; 8192],
-    list: &mut ConstraintList,
+    list: &mut [u16; 20480],
     made: Made,
     lows: &mut [u32; 64],
     paths: &mut [u16; 3072],
@@ -130,7 +130,7 @@ pub fn run(given: &Given, work: &mut [u32], spare: &mut [u32; 8192]) -> End
     ensures { EndedWith (sheet_of given.now) work.new result (plan_for (sheet_of given.now)) }
 {
     let limit = given.sheet.limit();
-    let mut list = ConstraintList::new();
+    let mut list = [0u16; 20480];
     let mut paths = [0u16; 3072];
     let mut lows = [records::CLOSED_KEY; 64];
     let mut made = Made {

@@ -8,7 +8,10 @@ pub make_child-requires : goal.make_child-requires
 make_child-requires c =
     let q = c.requires in
     let root = c.in_ok-rooted in
-    first_branch {g = c.args.given.now} root.rooted q.room q.below q.held q.node_at.0 root.ensures.grew root.ensures.same c.next_root.auto.work q.node_at.1
+    record {
+      branch = first_branch {g = c.args.given.now} root.rooted q.room q.below q.held q.node_at.0 root.ensures.grew root.ensures.same c.next_root.auto.work q.node_at.1;
+      list_room = q.list_room;
+    }
 
 pub returns-in_err-once-clause-same : goal.returns-in_err-once-clause-same
 returns-in_err-once-clause-same c =
@@ -21,7 +24,10 @@ make_child-requires-2 c =
     let root = c.in_ok-rooted in
     let one = c.in_ok-once in
     let x = first_branch {g = c.args.given.now} root.rooted q.room q.below q.held q.node_at.0 root.ensures.grew root.ensures.same c.next_root.auto.work q.node_at.1 in
-    second_branch one.once x one.ensures.grew one.ensures.same c.make_child.auto.work q.node_at.2
+    record {
+      branch = second_branch one.once x one.ensures.grew one.ensures.same c.make_child.auto.work q.node_at.2;
+      list_room = omega (arith, q.list_room, c.make_child.auto.list);
+    }
 
 pub returns-clause-grew : goal.returns-clause-grew
 returns-clause-grew c =

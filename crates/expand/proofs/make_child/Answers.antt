@@ -7,7 +7,7 @@ use Rattle.expand.proofs.make_child.Goals as goal
 
 pub returns-in_default : goal.returns-in_default
 returns-in_default c =
-    let x = c.requires in
+    let x = c.requires.branch in
     let path = c.child_path in
     record {
       grew = not_made x _ path.ensures.front (no_path_lem x _ path.ensures.front path.result path.ensures.answer c.in_default.not-Some);
@@ -16,7 +16,7 @@ returns-in_default c =
 
 pub returns-then-made-limit : goal.returns-then-made-limit
 returns-then-made-limit c =
-    let x = c.requires in
+    let x = c.requires.branch in
     let path = c.child_path in
     let found = a_path x _ path.ensures.front path.result path.ensures.answer _ c.in-Some.is in
     record {
@@ -28,7 +28,7 @@ pub make_child-requires : goal.make_child-requires
 make_child-requires c =
     let path = c.child_path in
     let word = c.limit-limit in
-    let x = c.requires in
+    let x = c.requires.branch in
     let found = a_path x _ path.ensures.front path.result path.ensures.answer _ c.in-Some.is in
     record {
       n_lt_made = (
@@ -47,7 +47,7 @@ make_child-requires c =
 
 pub returns : goal.returns
 returns c =
-    let x = c.requires in
+    let x = c.requires.branch in
     let path = c.child_path in
     let word = c.limit-limit in
     let found = a_path x _ path.ensures.front path.result path.ensures.answer _ c.in-Some.is in

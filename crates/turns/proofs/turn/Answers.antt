@@ -1,7 +1,8 @@
 -- `turns::turn` meets its contract: the cheapest open node is the plan, or the nodes of its expansion are made. Assumes nothing.
 use Rattle.std.proofs.Common.{arith}
 use Rattle.sheet.proofs.Accepted.{limit_range}
-use Rattle.turns.proofs.Turning.{closed_is_taken, room_of, took_none, took_room, took_held, took_node_at, took_plan, took_good, took_turned}
+use Rattle.nodes.proofs.Blocks.{lows_kept}
+use Rattle.turns.proofs.Turning.{closed_is_taken, room_of, lows_limit, took_none, took_room, took_held, took_node_at, took_plan, took_good, took_turned}
 use Rattle.turns.proofs.turn.Goals as goal
 
 pub cheapest-requires-clause-made_le_limit : goal.cheapest-requires-clause-made_le_limit
@@ -66,3 +67,6 @@ returns-clause-turned c =
     λ st k turning.
     let took = closed_is_taken sheet.bytes.now sheet.accepted turning c.limit-limit.ensures.value c.in-Some.node c.in-Some.ensures.chosen c.in-Some.ensures.inside c.close.ensures.closed in
     took_turned sheet.bytes.now sheet.accepted turning took c.requires.room c.in-Some-collision_of.ensures _ _ c.expanded.ensures.turned
+
+pub returns-clause-lows : goal.returns-clause-lows
+returns-clause-lows c = lows_kept c.expanded.ensures.same.keys (lows_limit _ c.limit-limit.ensures.value c.close.ensures.lows)
