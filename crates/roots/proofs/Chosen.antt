@@ -1,14 +1,14 @@
 -- The chosen slot is one whose assignment is no later than those of the others. Assumes nothing.
-use Rattle.std.specs.Prelude.{Some, None, Option}
-use Rattle.std.proofs.Common.{ℕ, ◌+◌, ◌-◌, ◌<◌, ◌≤◌, ◌≡◌, refl, sym, ap, subst, ◌∙◌, ◌⊎◌, inl, inr, ⊎_elim, Bool, true, false, cond, List, [], ◌∷◌, ◌++◌, append_assoc, append-nil, arith, length, take, replicate, length-append, get_or-append-add, eqb, eq-eqb, eqb-true}
-use mathlib.Core.Bool.{false≢true}
+use Rattle.std.proofs.Common.{Some, None, Option, ℕ, ◌+◌, ◌-◌, ◌<◌, ◌≤◌, ◌≡◌, refl, sym, ap, subst, ◌∙◌, ◌⊎◌, inl, inr, ⊎_elim, Bool, true, false, cond, List, [], ◌∷◌, ◌++◌, append_assoc, append-nil, arith, length, take, replicate, length-append, get_or-append-add, eqb, eq-eqb, eqb-true}
+use Rattle.std.proofs.lemmas.List.{get_or-replicate, length-replicate, get_or_append_left}
+use Rattle.std.proofs.lemmas.Bool.{false≢true}
 use mathlib.Core.List.Memᴰ.{append_cases as cases_append}
 use mathlib.Core.List.Memᴰ.{eq_of_singleton as only}
 use mathlib.Core.List.Memᴰ.{head as here}
 use mathlib.Core.List.Memᴰ.{tail as there}
 use mathlib.Core.List.{Memᴰ as Mem}
 use native.Mathlib.Nat.{suc_inj}
-use lib.ListN.{get_or-append, get_or-replicate, get_or-eq_default, length-replicate}
+use Rattle.std.proofs.Math.ListN.{get_or-eq_default}
 use Rattle.deck.specs.Lists.{each}
 use Rattle.deck.specs.Assignments.{sum_of}
 use Rattle.deck.specs.Calls.{task_list}
@@ -56,7 +56,7 @@ not_less m table a b e never = ⊎_elim
 -- a list of 12 is of bytes
 pub list_bytes : (m : ℕ) (a : List ℕ) → m ≤ 12 → Assignment m a → (i : ℕ) → task_list a at i < 256
 list_bytes m a small h i = ⊎_elim
-    (λ l. omega (arith, get_or-append a (replicate (12 - length a) 255) 0 i l, h.tasks i (omega (arith, h.as_many))))
+    (λ l. omega (arith, get_or_append_left a (replicate (12 - length a) 255) 0 i l, h.tasks i (omega (arith, h.as_many))))
     (λ l. past (lower i 12) l) (lower i (length a))
   where
     past : (i < 12) ⊎ (12 ≤ i) → length a ≤ i → task_list a at i < 256

@@ -1,9 +1,7 @@
 -- Slots of a record put anew, and the slots of a root filled one after another. Assumes nothing.
-use Rattle.std.proofs.Common.{ℕ, suc, ◌+◌, ◌*◌, ◌-◌, ◌<◌, ◌≤◌, ◌≡◌, refl, sym, ap, subst, ◌∙◌, ⊎_elim, ◌≢◌, List, [], ◌∷◌, arith, get_or, set, take, length, replicate, length-set, length-append, get_or-set_same, get_or-set_other, set-set, take_all}
-use Rattle.std.specs.Prelude.{Option, None, Some}
+use Rattle.std.proofs.Common.{ℕ, suc, ◌+◌, ◌*◌, ◌-◌, ◌<◌, ◌≤◌, ◌≡◌, refl, sym, ap, subst, ◌∙◌, ⊎_elim, ◌≢◌, List, [], ◌∷◌, arith, get_or, set, take, length, replicate, length-set, length-append, get_or-set_same, get_or-set_other, set-set, take_all, Option, None, Some}
+use Rattle.std.proofs.lemmas.List.{length-replicate, set-get_or}
 use native.Mathlib.Decide.{ℕ_discrete}
-use lib.ListN.{length-replicate}
-use lib.Seq.{set-get_or}
 use Rattle.deck.specs.Assignments.{sum_of}
 use Rattle.deck.specs.Calls.{task_list}
 use Rattle.prices.proofs.Growth.{lower}
