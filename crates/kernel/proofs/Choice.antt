@@ -1,10 +1,6 @@
 -- The greatest over a list, and the first that passes a test. Assumes nothing.
 use Rattle.std.proofs.Common.{ℕ, zero, suc, ◌≤◌, ◌<◌, zero-le, max, ◌≡◌, refl, ap, ◌∙◌, subst, ◌⊎◌, inl, inr, Bool, true, false, cond, List, [], ◌∷◌, arith, T, ltb, ltb-true, ltb-false}
-use mathlib.Core.List.Memᴰ.{cases_cons}
-use mathlib.Core.List.Memᴰ.{head as here}
-use mathlib.Core.List.Memᴰ.{not-nil}
-use mathlib.Core.List.Memᴰ.{tail as there}
-use mathlib.Core.List.{Memᴰ as Mem}
+use Rattle.deck.proofs.Members.{Mem, here, there, not-nil, cases_cons}
 use Rattle.meaning.specs.Sorted.{Sorted}
 use Rattle.kernel.specs.Layers.{best, first_of, lift}
 

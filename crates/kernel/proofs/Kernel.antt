@@ -1,6 +1,6 @@
 -- The one function on layers, run forward and backward, gives the least path. Assumes nothing.
 use Rattle.std.proofs.Common.{ℕ, zero, suc, ◌+◌, ◌-◌, ◌≤◌, ◌<◌, zero-le, max, ◌≡◌, refl, sym, ap, ◌∙◌, subst, ◌↔◌, ⊎_elim, Bool, true, false, cond, ◌&&◌, List, [], ◌∷◌, reverse, eq-or-lt_of_le, le_refl, arith, length, T, eqb, ltb, ltb→lt, lt→ltb, eqb-true}
-use mathlib.Core.List.{Memᴰ as Mem}
+use Rattle.deck.proofs.Members.{Mem}
 use Rattle.deck.specs.Sheet.{Sheet, start_of, goals_of, last_goal}
 use Rattle.deck.specs.declared.Carrier.{Carrier}
 use Rattle.deck.specs.declared.Task.{Task}

@@ -1,9 +1,7 @@
 -- The least time that the layers give, and the path traced from it, are the finish and the places of the least path.
 -- Assumes nothing.
 use Rattle.std.proofs.Common.{ℕ, zero, suc, ◌+◌, ◌-◌, ◌≤◌, ◌<◌, zero-le, ◌≡◌, refl, sym, subst, ◌↔◌, inl, ⊎_elim, Bool, true, false, cond, ◌&&◌, List, [], ◌∷◌, map, Option, None, Some, eq-or-lt_of_le, le_trans, arith, T, eqb, leb, leb→le, le→leb, ltb→lt, lt→ltb, leb-true, leb-false}
-use mathlib.Core.List.Memᴰ.{head as here}
-use mathlib.Core.List.Memᴰ.{tail as there}
-use mathlib.Core.List.{Memᴰ as Mem}
+use Rattle.deck.proofs.Members.{Mem, here, there}
 use Rattle.deck.specs.Lists.{greatest}
 use Rattle.deck.specs.Sheet.{Sheet, area, free, start_of, goals_of, last_goal}
 use Rattle.deck.specs.Paths.{least_path, finish_of}

@@ -1,8 +1,7 @@
 -- Backward as forward: the labels counted backward rise as labels do, with the goals reversed. Assumes nothing.
 use Rattle.std.proofs.Common.{ℕ, zero, suc, ◌-◌, ◌≤◌, zero-le, ◌≡◌, refl, sym, ap, ◌∙◌, subst, ⊎_elim, Bool, true, false, cond, ◌&&◌, List, [], ◌∷◌, ◌++◌, reverse, le_refl, arith, length, eqb, eq-eqb, ne_eqb}
-use mathlib.Core.List.{reverse-cons}
-use lib.ListN.{length-reverse}
-use lib.Dec.{eqb-suc-suc, eqb-zero-suc}
+use Rattle.std.proofs.lemmas.List.{length-reverse, reverse-append}
+use Rattle.std.proofs.Math.Dec.{eqb-suc-suc, eqb-zero-suc}
 use Rattle.kernel.specs.Layers.{lift}
 use Rattle.kernel.specs.Goals.{up, fall, down, lowered}
 use Rattle.kernel.proofs.Choice.{lt_or_ge}
@@ -60,7 +59,7 @@ up_reverse x (g ∷ gs) (suc m) h =
     let a : up x (reverse gs ++ g ∷ []) k ≡ bump (eqb x g) (length gs) (up x (reverse gs) k)
     = rw (length-reverse gs) at (up_end x g (reverse gs) k (omega (arith, length-reverse gs))) in
     subst (λ (y : ℕ). up x (reverse (g ∷ gs)) y ≡ suc (length gs) - fall (eqb x g) (down x gs m)) (sym e)
-    (subst (λ (l : List ℕ). up x l k ≡ suc (length gs) - fall (eqb x g) (down x gs m)) (sym (reverse-cons g gs))
+    (subst (λ (l : List ℕ). up x l k ≡ suc (length gs) - fall (eqb x g) (down x gs m)) (sym (reverse-append (g ∷ []) gs))
     (a ∙ ap (bump (eqb x g) (length gs)) i ∙ bump_fall (eqb x g) (length gs) (down x gs m) (omega (arith, down_le x gs m))))
 
 pub backward_as_forward : (x : ℕ) (gs : List ℕ) (b : ℕ) → b ≤ suc (length gs) → lowered x gs b ≡ lift (up x (reverse gs)) b

@@ -1,11 +1,7 @@
 -- The collisions that the definitions list are exactly those of the meaning, in its order. So the first of the list is the first
 -- collision, and the list is empty exactly if no two paths collide. Assumes nothing.
 use Rattle.std.proofs.Common.{ℕ, suc, ◌≤◌, ◌<◌, ◌≡◌, refl, sym, ap, subst, ◌∙◌, ◌↔◌, ◌⊎◌, inl, inr, ⊎_elim, ◌≢◌, Bool, true, false, cond, List, [], ◌∷◌, map, Option, None, Some, arith, T, ltb}
-use mathlib.Core.List.Memᴰ.{append_cases as cases_append}
-use mathlib.Core.List.Memᴰ.{append_left as in_left}
-use mathlib.Core.List.Memᴰ.{append_right as in_right}
-use mathlib.Core.List.Memᴰ.{not-nil}
-use mathlib.Core.List.{Memᴰ as Mem}
+use Rattle.deck.proofs.Members.{Mem, not-nil, in_left, in_right, cases_append}
 use Rattle.deck.specs.Lists.{below, select, head_of}
 use Rattle.deck.specs.Sheet.{carrier}
 use Rattle.deck.specs.Collisions.{place_at, pairs, place_collides, move_collides, place_collision, move_collision, collisions_at, collisions, first_collision}

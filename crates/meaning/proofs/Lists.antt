@@ -1,14 +1,7 @@
 -- Laws of the lists that the definitions are made of: what stands in them, and in what order. Assumes nothing.
 use Rattle.std.proofs.Common.{ℕ, zero, suc, ◌+◌, ◌*◌, ◌≤◌, ◌<◌, ◌≡◌, refl, sym, ap, subst, ◌∙◌, ◌↔◌, ◌⊎◌, inl, inr, ⊎_elim, Bool, true, false, cond, List, [], ◌∷◌, ◌++◌, map, append-nil, append_assoc, Option, None, Some, not-suc-le-zero, eq-or-lt_of_le, le_trans, le_refl, le_of_lt, le_of_suc-le-suc, suc-mul, mul-le-mul_right, arith, length, get_or, take, drop, replicate, get_or-append-add, drop-drop, T, leb, leb-true, leb-false}
-use mathlib.Core.List.Memᴰ.{append_cases as cases_append}
-use mathlib.Core.List.Memᴰ.{append_left as in_left}
-use mathlib.Core.List.Memᴰ.{append_right as in_right}
-use mathlib.Core.List.Memᴰ.{cases_cons}
-use mathlib.Core.List.Memᴰ.{head as here}
-use mathlib.Core.List.Memᴰ.{not-nil}
-use mathlib.Core.List.Memᴰ.{tail as there}
-use mathlib.Core.List.{Memᴰ as Mem}
-use lib.ListN.{length-map, get_or-append}
+use Rattle.deck.proofs.Members.{Mem, here, there, not-nil, cases_cons, in_left, in_right, cases_append}
+use Rattle.std.proofs.lemmas.List.{length-map, get_or_append_left}
 use Rattle.deck.specs.Lists.{count_from, below, sum, select, each, pieces, take_least, pick_least, head_of}
 use Rattle.meaning.specs.Sorted.{Sorted}
 
@@ -110,7 +103,7 @@ pub each_at : {A B : Type 0} (f : A → List B) (w : ℕ) → ((x : A) → lengt
 each_at f w s [] c d i j h k = absurd (not-suc-le-zero h)
 each_at f w s (x ∷ l) c d zero j h k =
     let e : 0 * w + j ≡ j = omega arith in
-    rw e (get_or-append (f x) (each f l) d j (omega (arith, s x)))
+    rw e (get_or_append_left (f x) (each f l) d j (omega (arith, s x)))
 each_at f w s (x ∷ l) c d (suc i) j h k =
     let e : suc i * w + j ≡ length (f x) + (i * w + j) = omega (arith, s x, suc-mul i w) in
     rw (e, get_or-append-add (f x) (each f l) (i * w + j) d) (each_at f w s l c d i j (le_of_suc-le-suc h) k)
