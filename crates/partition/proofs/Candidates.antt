@@ -1,8 +1,7 @@
 -- A part's candidate is its first assignment in order, and the least assignment of the part's table. Assumes nothing.
 use Rattle.std.proofs.Common.{ℕ, ◌≤◌, ◌<◌, ◌≡◌, refl, sym, ◌∙◌, ◌⊎◌, inl, inr, ⊎_elim, cond, not, List, Option, None, Some, le_refl, arith, eqb, lt-ltb, le-ltb, eq-eqb, ne_eqb}
-use mathlib.Core.List.Memᴰ.{not-nil}
-use mathlib.Core.List.{Memᴰ as Mem}
-use native.Mathlib.Decide.{ℕ_discrete}
+use Rattle.deck.proofs.Members.{Mem, not-nil}
+use Rattle.std.proofs.Math.Decide.{ℕ_discrete}
 use Rattle.deck.specs.Lists.{below, select, head_of}
 use Rattle.deck.specs.Assignments.{barred, entry_at, sum_of, assignments_in_order, least_assignment}
 use Rattle.meaning.specs.Meaning.{◌at◌, Assignment, Unbarred, Less}

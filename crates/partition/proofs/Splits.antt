@@ -1,7 +1,8 @@
 -- The slots of a part from which an assignment is taken: they hold the others, and no two have one in common. Assumes nothing.
 use Rattle.std.proofs.Common.{ℕ, zero, suc, ◌≤◌, ◌<◌, ◌≡◌, refl, sym, ap, subst, ◌∙◌, ◌⊎◌, inl, inr, ⊎_elim, ◌≢◌, Bool, true, false, cond, List, not-suc-le-zero, eq-or-lt_of_le, le_of_suc-le-suc, le_refl, arith, length, set, length-set, ext_get_or, get_or-set_same, get_or-set_other, eqb, eqb-true, eq-eqb}
-use native.Mathlib.Decide.{ℕ_discrete}
-use lib.ListN.{get_or-replicate, get_or-eq_default}
+use Rattle.std.proofs.Math.Decide.{ℕ_discrete}
+use Rattle.std.proofs.lemmas.List.{get_or-replicate}
+use Rattle.std.proofs.Math.ListN.{get_or-eq_default}
 use Rattle.meaning.specs.Meaning.{◌at◌, Assignment}
 use Rattle.prices.proofs.Growth.{lower}
 use Rattle.partition.specs.Parts.{Part, InPart, none_closed, slot_part}

@@ -1,9 +1,8 @@
 -- The assignment of least merged weight is the first in order: its weight is the least, and among those of that weight its list
 -- comes first. There is none exactly if that assignment is heavy. Assumes nothing.
 use Rattle.std.proofs.Common.{ℕ, zero, suc, ◌+◌, ◌-◌, ◌*◌, ◌≤◌, ◌<◌, suc-le-suc, zero-le, ◌≡◌, refl, sym, ap, ap₂, subst, ◌∙◌, ◌⊎◌, inl, inr, ⊎_elim, ◌≢◌, Bool, cond, List, [], ◌∷◌, map, Option, None, Some, eq-or-lt_of_le, le_of_suc-le-suc, mul-le-mul_right, suc-mul, arith, length, ltb, eq-eqb, ne_eqb, lt-ltb, le-ltb}
-use mathlib.Core.List.Memᴰ.{cases_cons, head as here, not-nil, tail as there}
-use mathlib.Core.List.{Memᴰ as Mem}
-use native.Mathlib.Nat.{suc_inj}
+use Rattle.deck.proofs.Members.{Mem, here, there, not-nil, cases_cons}
+use Rattle.std.proofs.Math.Nat.{suc_inj}
 use Rattle.deck.specs.Lists.{below, count_from, sum}
 use Rattle.deck.specs.Assignments.{barred, entry_at, sum_of, least_assignment}
 use Rattle.meaning.specs.Meaning.{◌at◌, Assignment, Unbarred, StrictlyBefore, Less}

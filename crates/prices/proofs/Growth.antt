@@ -1,9 +1,9 @@
 -- One round of the Hungarian method: the tree of a row grows over entries of least slack until it reaches a free column, and the
 -- way back to the row is turned. Assumes nothing.
 use Rattle.std.proofs.Common.{ℕ, zero, suc, ◌+◌, ◌≤◌, ◌<◌, ◌≡◌, refl, sym, ap, subst, ◌∙◌, ◌⊎◌, inl, inr, ⊎_elim, ◌≢◌, Bool, true, false, map, not-suc-le-zero, le_refl, eq-or-lt_of_le, le_of_suc-le-suc, arith, ltb, ltb-true, ltb-false}
-use mathlib.Core.Bool.{false≢true}
-use native.Mathlib.Decide.{ℕ_discrete}
-use lib.ListN.{length-map}
+use Rattle.std.proofs.lemmas.Bool.{false≢true}
+use Rattle.std.proofs.Math.Decide.{ℕ_discrete}
+use Rattle.std.proofs.lemmas.List.{length-map}
 use Rattle.deck.specs.Lists.{below}
 use Rattle.meaning.specs.Meaning.{◌at◌, Assignment}
 use Rattle.meaning.proofs.Lists.{get_or_tabulate, length_count_from}

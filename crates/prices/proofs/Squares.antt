@@ -1,8 +1,7 @@
 -- The entries of a table of m rows and m columns. Assumes nothing.
 use Rattle.std.proofs.Common.{ℕ, ◌+◌, ◌*◌, ◌/◌, ◌%◌, ◌≤◌, ◌<◌, ◌≡◌, refl, sym, ap, subst, ◌∙◌, ⊎_elim, List, [], ◌∷◌, map, zero-mul, suc-mul, mod-lt, div-lt_iff_lt-mul, div-add-mod', arith, length, get_or, length-append, ext_get_or}
-use mathlib.Core.List.Memᴰ.{head as here, tail as there}
-use mathlib.Core.List.{Memᴰ as Mem}
-use lib.ListN.{length-map}
+use Rattle.deck.proofs.Members.{Mem, here, there}
+use Rattle.std.proofs.lemmas.List.{length-map}
 use Rattle.deck.specs.Lists.{below, each}
 use Rattle.deck.specs.Assignments.{barred, entry_at}
 use Rattle.meaning.proofs.Lists.{mem_below, get_or_count_from, length_count_from, get_or_tabulate, each_at}
