@@ -3,7 +3,7 @@ use Prim.Native.Nat.{ℕ, zero, suc, ◌+◌, ◌/◌, ◌≤◌, ◌<◌}
 use mathlib.Core.Path.{◌≡◌, refl, sym, ap₂, ◌∙◌, subst}
 use mathlib.Core.Logic.{◌≢◌}
 use mathlib.Core.Bool.{Bool, true, false}
-use mathlib.Core.List.{List, Memᴰ as Mem}
+use mathlib.Core.List.{List}
 use native.Mathlib.Nat.{le_antisymm}
 use native.Mathlib.Omega.{arith}
 use lib.ListN.{length}
@@ -14,7 +14,8 @@ use Rattle.deck.specs.Sheet.{carrier}
 use Rattle.deck.specs.Calls.{record_word, constraint_of, constraint_at, constraints_of}
 use Rattle.deck.specs.declared.Constraint.{Constraint}
 use Rattle.meaning.proofs.Tests.{Says, says_eqb, says_and, says_not, is_true, is_false}
-use Rattle.meaning.proofs.Lists.{mem_map, map_mem, mem_below}
+use Rattle.deck.proofs.Members.{Mem, map_mem}
+use Rattle.meaning.proofs.Lists.{mem_map, mem_below}
 use Rattle.kernel.specs.Parts.{free_move, free_place, stay_after, stay_from}
 use Rattle.kernel.proofs.OfSheet.{LetsMove, LetsPlace, free_move_meant, free_place_meant}
 use Rattle.kernel.proofs.Least.{greatest_all, all_greatest}

@@ -1,7 +1,6 @@
 -- The test of a layer, place by place. Assumes nothing.
-use Rattle.std.proofs.Common.{ℕ, suc, ◌+◌, ◌-◌, ◌≤◌, ◌<◌, max, min, ◌≡◌, refl, sym, subst, ◌⊎◌, inl, inr, ⊎_elim, List, eq-or-lt_of_le, arith, get_or, replicate, T}
-use lib.ListN.{length-replicate, get_or-replicate, get_or-eq_default}
-use Rattle.kernel.proofs.Choice.{lt_or_ge}
+use Rattle.std.proofs.Common.{ℕ, suc, ◌+◌, ◌-◌, ◌≤◌, ◌<◌, max, min, ◌≡◌, refl, sym, subst, ◌⊎◌, inl, inr, List, eq-or-lt_of_le, arith, get_or, replicate, T}
+use Rattle.meaning.proofs.Lists.{get_or_same}
 use Rattle.bars.specs.Ways.{move_by, way_back, opens_by}
 use Rattle.bars.proofs.Gates.{each_way}
 use native.Mathlib.Decide.{ℕ_discrete}
@@ -62,12 +61,8 @@ even_of {counts} {x} {mask} {wide} {end} k h p y a b f l o = go (ℕ_discrete y 
     go (no n) = let r = h.at p y a b f l n in omega (arith, r.2, k _ _ _ _ r.1 o)
 
 -- zeros pass the test
-zeros : (q : ℕ) → get_or {A = ℕ} (replicate 1156 0) q 0 ≡ 0
-zeros q = ⊎_elim (λ h. get_or-replicate {A = ℕ} 1156 q 0 0 h)
-    (λ h. get_or-eq_default (replicate {A = ℕ} 1156 0) 0 {n = q} (omega (arith, length-replicate {A = ℕ} 1156 0))) (lt_or_ge q 1156)
-
 pub zero_layer : (mask : List ℕ) (w h goal base : ℕ) → Layer mask w h goal base (replicate 1156 0)
 zero_layer mask w h goal base = record {
-  even = λ p y a b m l o. rw (zeros (move_by (w + 2) p y), zeros p) (omega arith);
-  ends = rw (zeros goal) (omega arith);
+  even = λ p y a b m l o. rw (get_or_same {A = ℕ} 0 1156 (move_by (w + 2) p y), get_or_same {A = ℕ} 0 1156 p) (omega arith);
+  ends = rw (get_or_same {A = ℕ} 0 1156 goal) (omega arith);
 }

@@ -1,5 +1,6 @@
 -- The root of the next assignment: whether one remains, as the chosen slot says, and the state that is held once it is made. Assumes
 -- nothing.
+use Rattle.std.proofs.lemmas.Bool.{cases_lt}
 use Prim.Native.Nat.{ℕ, ◌+◌, ◌*◌, ◌<◌, ◌≤◌}
 use mathlib.Core.Path.{◌≡◌, refl, sym, subst, ◌∙◌}
 use mathlib.Core.Logic.{⊎_elim}
@@ -18,7 +19,6 @@ use Rattle.deck.specs.declared.Constraint.{Constraint}
 use Rattle.meaning.specs.Meaning.{◌at◌, Assignment}
 use Rattle.meaning.specs.Making.{added, make_root}
 use Rattle.prices.specs.Square.{copied}
-use Rattle.prices.proofs.Growth.{lower}
 use Rattle.partition.specs.Parts.{Slot}
 use Rattle.partition.proofs.Candidates.{Candidate, candidate_meant}
 use Rattle.records.specs.Record.{fields_at, root_in}
@@ -117,7 +117,7 @@ module _ {s mask table work bounds : List ℕ} (g : Given s mask table work boun
     module _ (less : made < (read s).limit) {mid tasks : List ℕ} (B : RootBegun work mid made tasks) (N : NextTaken m (copied m table) mid (made + 1) st.rest tasks) where
       small : (a : List ℕ) → Assignment (read s).count a → (k : ℕ) → a at k < 256
       small a h k =
-          ⊎_elim (λ l. omega (arith, h.tasks k l, few_carriers)) (λ l. rw (get_or-eq_default a 0 {n = k} (omega (arith, h.as_many))) (omega arith)) (lower k (read s).count)
+          ⊎_elim (λ l. omega (arith, h.tasks k l, few_carriers)) (λ l. rw (get_or-eq_default a 0 {n = k} (omega (arith, h.as_many))) (omega arith)) (cases_lt k (read s).count)
 
       pub next_begun : (a : List ℕ) × (others : List (List ℕ)) × (st.rest ≡ a ∷ others) × Begun (read s) mid made a 0 (held_state st.opened made others)
       next_begun =

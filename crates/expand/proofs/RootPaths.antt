@@ -8,17 +8,17 @@ use Rattle.std.specs.Prelude.{Option, None, Some}
 use native.Mathlib.Omega.{arith}
 use lib.ListN.{length, get_or, take, drop, replicate, get_or-append}
 use lib.Seq.{take_at}
-use lib.Dec.{T}
 use Rattle.deck.specs.Sheet.{Sheet, read, count_of, carrier, task}
 use Rattle.deck.specs.Paths.{least_path, finish_of}
 use Rattle.deck.specs.Assignments.{barred, entry_at, entry_of, table_of}
-use Rattle.deck.specs.Calls.{workspace_for, constraints_of, good_records, path_found, path_written}
+use Rattle.deck.specs.Calls.{workspace_for, constraints_of, path_found, path_written}
 use Rattle.deck.specs.Search.{State, root_of}
 use Rattle.deck.specs.Planner.{problem}
 use Rattle.deck.specs.declared.Carrier.{Carrier}
 use Rattle.deck.specs.declared.Task.{Task}
 use Rattle.deck.specs.declared.Constraint.{Constraint}
 use Rattle.meaning.proofs.Assignments.{table_at}
+use Rattle.meaning.proofs.Constraints.{no_records}
 use Rattle.meaning.specs.Making.{added}
 use Rattle.meaning.proofs.LeastPath.{LeastMeant, least_path_meant}
 use Rattle.prices.specs.Square.{cell}
@@ -54,10 +54,6 @@ module _ {s mask table work bounds : List ℕ} (g : Given s mask table work boun
 pub none_bound : constraints_of [] ≡ []
 unfolding constraints_of
 none_bound = refl
-
-pub none_good : (d : Sheet) → T (good_records d [])
-unfolding good_records
-none_good d = tt
 
 -- nodes stay as they were where nothing is done, and through two steps
 pub same_none : (d : Sheet) (work : List ℕ) (made : ℕ) → Same d work work made
@@ -165,7 +161,7 @@ module _ {s mask table work bounds : List ℕ} {n : ℕ} (i : Carrier) {a : List
     task_in = subst (λ (t : Task). t.0 < d.count) (sym is_task) low
 
     pub root_ready : Ready s i k mask []
-    root_ready = record { accepted = g.accepted; carrier_in = b; task_in = task_in; masked = g.masked; records = none_good d }
+    root_ready = record { accepted = g.accepted; carrier_in = b; task_in = task_in; masked = g.masked; records = no_records d }
 
     pub root_bound : {x : ℕ} → x ≡ cell table i.0 k.0 → NoEarlier d i k (constraints_of []) x
     unfolding entry_of

@@ -1,4 +1,5 @@
 -- Entries found layer by layer: the first layer that reaches a carrier's start. Assumes nothing.
+use Rattle.std.proofs.lemmas.Bool.{cases_lt}
 use Prim.Native.Nat.{ℕ, ◌+◌, ◌≤◌, ◌<◌}
 use mathlib.Core.Path.{◌≡◌, refl, sym, ap, ◌∙◌, subst}
 use mathlib.Core.Logic.{◌≢◌, ◌⊎◌, ⊎_elim}
@@ -19,7 +20,6 @@ use Rattle.deck.specs.declared.Task.{Task}
 use Rattle.sheet.proofs.Accepted.{horizon_range, start_free, last_goal_free}
 use Rattle.kernel.specs.Labels.{all_goals}
 use Rattle.kernel.specs.Kernel.{hind}
-use Rattle.kernel.proofs.Choice.{lt_or_ge}
 use Rattle.kernel.proofs.Table.{hind_timeless, entry_found, entry_barred}
 use Rattle.layers.specs.Fill.{Filled}
 use Rattle.layers.proofs.Fills.{filled_more}
@@ -99,7 +99,7 @@ module _ (s : List ℕ) (ok : cause s ≡ None) (i : ℕ) (j : Task) (a : i < co
           let f = m.found z in
           sym (entry_found d (carrier i) j starts_free ends_free e (record {
             has = λ h. rw (own_steps e) f.1;
-            first = λ n h r. ⊎_elim (λ g. m.earlier n g (rw (own_steps n) at r)) (λ g. omega (arith, f.0)) (lt_or_ge n k);
+            first = λ n h r. ⊎_elim (λ g. m.earlier n g (rw (own_steps n) at r)) (λ g. omega (arith, f.0)) (cases_lt n k);
           }) (omega (arith, f.0)))
 
 -- the column after its last layer

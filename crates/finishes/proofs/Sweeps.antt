@@ -1,22 +1,21 @@
 -- The backward pass of one task without constraints: what its calls ask, its layers, and its column. Assumes nothing.
 use Prim.Native.Nat.{ℕ, suc, ◌+◌, ◌-◌, ◌*◌, ◌≤◌, ◌<◌}
 use mathlib.Core.Path.{◌≡◌, sym, ap, ◌∙◌, subst}
-use mathlib.Core.Logic.{⊎_elim}
 use mathlib.Core.Bool.{true}
 use mathlib.Core.List.{List, [], reverse}
 use native.Mathlib.Nat.{not-suc-le-zero}
 use native.Mathlib.Numerals.{add-one}
 use native.Mathlib.Omega.{arith}
-use lib.ListN.{length, get_or, replicate, length-replicate, get_or-replicate, get_or-eq_default}
-use lib.Dec.{T}
+use lib.ListN.{length, get_or, replicate, length-replicate, get_or-replicate}
 use Rattle.std.specs.Prelude.{None}
 use Rattle.deck.specs.Sheet.{Sheet, read, area, count_of, carrier, start_of, goals_of, last_goal, cause}
 use Rattle.deck.specs.Assignments.{barred}
-use Rattle.deck.specs.Calls.{constraints_of, good_records}
+use Rattle.deck.specs.Calls.{constraints_of}
 use Rattle.deck.specs.declared.Task.{Task}
+use Rattle.meaning.proofs.Lists.{get_or_same}
+use Rattle.meaning.proofs.Constraints.{no_records}
 use Rattle.sheet.proofs.Accepted.{width_range, height_range, count_range, horizon_range, goals_at_most, goal_on_grid, last_goal_on_grid, start_on_grid}
 use Rattle.kernel.specs.Kernel.{hind}
-use Rattle.kernel.proofs.Choice.{lt_or_ge}
 use Rattle.kernel.proofs.OfTask.{all_goals_is}
 use Rattle.kernel.proofs.Table.{hind_timeless}
 use Rattle.bars.specs.Padded.{pad_of, Holds, MaskOf}
@@ -33,17 +32,9 @@ use Rattle.passes.proofs.Passing.{holds_same, hind_next, step_asks, zeros_margin
 use Rattle.finishes.specs.Entries.{Starts, steps, marked, Column, Passing}
 use Rattle.finishes.proofs.Marks.{marked_none, marked_more}
 
--- No records: no constraints, and no chains
-no_records : (d : Sheet) → T (good_records d [])
-unfolding good_records
-no_records d = tt
-
-zeros : (n q : ℕ) → get_or {A = ℕ} (replicate n 0) q 0 ≡ 0
-zeros n q = ⊎_elim (λ h. get_or-replicate {A = ℕ} n q 0 0 h)
-    (λ h. get_or-eq_default (replicate {A = ℕ} n 0) 0 {n = q} (omega (arith, length-replicate {A = ℕ} n 0))) (lt_or_ge q n)
-
+-- No records: no chains
 pub chained_none : (i : ℕ) (links : List ℕ) → Chained [] i (replicate 256 0) links
-chained_none i links = record { size = length-replicate {A = ℕ} 256 0; room = omega arith; head = λ t h. zeros 256 t; link = λ k h. absurd (not-suc-le-zero h) }
+chained_none i links = record { size = length-replicate {A = ℕ} 256 0; room = omega arith; head = λ t h. get_or_same {A = ℕ} 0 256 t; link = λ k h. absurd (not-suc-le-zero h) }
 
 module _ (s : List ℕ) (ok : cause s ≡ None) (j : Task) where
   abbrev d : Sheet

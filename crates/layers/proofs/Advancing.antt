@@ -6,17 +6,17 @@ use mathlib.Core.Bool.{Bool, true, false, cond}
 use mathlib.Core.List.{List, []}
 use native.Mathlib.Nat.{le_trans, not-suc-le-zero}
 use native.Mathlib.Omega.{arith}
-use lib.ListN.{length, get_or, set, replicate, length-set, length-replicate, get_or-replicate, get_or-eq_default}
+use lib.ListN.{length, get_or, set, replicate, length-set, length-replicate}
 use lib.Seq.{get_or-set_same, get_or-set_other}
 use lib.Dec.{T, eqb}
 use borrow.Author.Tests.{eq-eqb, ne_eqb}
 use native.Mathlib.Decide.{ℕ_discrete}
 use Rattle.deck.specs.Sheet.{Sheet, area, carrier}
 use Rattle.deck.specs.Calls.{record_word, constraints_of}
+use Rattle.meaning.proofs.Lists.{get_or_same}
 use Rattle.kernel.specs.Layers.{lift}
 use Rattle.kernel.specs.Goals.{up}
 use Rattle.kernel.specs.Parts.{stands}
-use Rattle.kernel.proofs.Choice.{lt_or_ge}
 use Rattle.kernel.proofs.OfSheet.{stands_is}
 use Rattle.bars.specs.Padded.{pad_of}
 use Rattle.bars.specs.Ways.{place_by, has_by}
@@ -223,11 +223,8 @@ all_seeded w rs i on goals n p {one} {two} {after} w1 small made c r = record {
     lift_if true g y = refl
     lift_if false g y = refl
 
-    zeros : (q : ℕ) → get_or {A = ℕ} (replicate 1156 0) q 0 ≡ 0
-    zeros q = ⊎_elim (λ h. get_or-replicate {A = ℕ} 1156 q 0 0 h) (λ h. get_or-eq_default (replicate {A = ℕ} 1156 0) 0 {n = q} (omega (arith, length-replicate {A = ℕ} 1156 0))) (lt_or_ge q 1156)
-
     other : (q : ℕ) → (q ≡ p → ⊥) → get_or one q 0 ≡ 0
-    other q ne = rw made (get_or-set_other (replicate 1156 0) p q 1 0 ne ∙ zeros q)
+    other q ne = rw made (get_or-set_other (replicate 1156 0) p q 1 0 ne ∙ get_or_same {A = ℕ} 0 1156 q)
 
     here_one : get_or one p 0 ≡ 1
     here_one = rw made (get_or-set_same (replicate 1156 0) p 1 0 (omega (arith, length-replicate {A = ℕ} 1156 0)))

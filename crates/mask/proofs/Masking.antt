@@ -1,4 +1,5 @@
 -- The mask, made row by row out of the sheet's grid bytes. Assumes nothing.
+use Rattle.std.proofs.lemmas.Bool.{cases_lt}
 use Prim.Native.Nat.{ℕ, zero, suc, ◌+◌, ◌-◌, ◌*◌, ◌≤◌, ◌<◌, max}
 use mathlib.Core.Path.{◌≡◌, refl, sym, ap, ◌∙◌, subst}
 use mathlib.Core.Logic.{◌⊎◌, inl, inr, ⊎_elim}
@@ -6,15 +7,15 @@ use mathlib.Core.Bool.{Bool, true, cond}
 use mathlib.Core.List.{List}
 use native.Mathlib.Nat.{eq-or-lt_of_le, mul-add, add-mul, suc-mul, mul_comm, mul-le-mul_right, div-lt_iff_lt-mul}
 use native.Mathlib.Omega.{arith}
-use lib.ListN.{length, get_or, drop, replicate, length-replicate, get_or-replicate, get_or-eq_default}
+use lib.ListN.{length, get_or, drop, replicate, length-replicate}
 use lib.Seq.{get_or-take, get_or-drop}
 use lib.Dec.{T, eqb, ltb, ltb→lt}
 use borrow.Author.Tests.{lt-ltb}
 use Rattle.std.specs.Prelude.{None}
 use Rattle.deck.specs.Sheet.{Sheet, read, area, cause, grid_pair, grid_stretch}
 use Rattle.meaning.proofs.Accepted.{accepted, accepted_inside, directory_says}
+use Rattle.meaning.proofs.Lists.{get_or_same}
 use Rattle.sheet.proofs.Accepted.{width_range, height_range}
-use Rattle.kernel.proofs.Choice.{lt_or_ge}
 use Rattle.bars.specs.Padded.{pad_of, shade_of, shade, MaskOf}
 use Rattle.bars.proofs.Grid.{pad_row, size_of, size_small}
 use Rattle.layers.specs.Fill.{Filled}
@@ -81,11 +82,7 @@ module _ (s : List ℕ) (ok : cause s ≡ None) where
   grid_asks ew eh eo = rw (ew, eh, eo) (size_small w d.height (width_range s ok).1 (height_range s ok).1, grid_inside)
 
   pub mask_none : Masked d 0 (replicate 1156 0)
-  mask_none = record { size = length-replicate {A = ℕ} 1156 0; inside = λ v h. absurd (omega arith); border = λ p b. zeros p }
-    where
-      zeros : (q : ℕ) → get_or {A = ℕ} (replicate 1156 0) q 0 ≡ 0
-      zeros q = ⊎_elim (λ h. get_or-replicate {A = ℕ} 1156 q 0 0 h)
-          (λ h. get_or-eq_default (replicate {A = ℕ} 1156 0) 0 {n = q} (omega (arith, length-replicate {A = ℕ} 1156 0))) (lt_or_ge q 1156)
+  mask_none = record { size = length-replicate {A = ℕ} 1156 0; inside = λ v h. absurd (omega arith); border = λ p b. get_or_same {A = ℕ} 0 1156 p }
 
   -- one row more
   pub mask_more : (y : ℕ) → y < d.height → (before after : List ℕ) → Masked d (y * w) before
@@ -95,13 +92,13 @@ module _ (s : List ℕ) (ok : cause s ≡ None) where
       let e : (y + 1) * w ≡ y * w + w = omega (arith, add-mul y 1 w) in
       rw e (record {
         size = f.size ∙ m.size;
-        inside = λ v l. ⊎_elim (λ a. f.below (pad_of w v) (lower v a) ∙ m.inside v a) (λ a. new v a l) (lt_or_ge v (y * w));
+        inside = λ v l. ⊎_elim (λ a. f.below (pad_of w v) (lower v a) ∙ m.inside v a) (λ a. new v a l) (cases_lt v (y * w));
         border = λ p b. ⊎_elim
             (λ a. f.below p a ∙ m.border p (λ v l. b v (omega arith)))
             (λ a. ⊎_elim
             (λ c. absurd (b (y * w + (p - (y * (w + 2) + w + 3))) (omega arith) (pad_row w y (p - (y * (w + 2) + w + 3)) z (omega arith) ∙ omega arith)))
-            (λ c. f.above p c ∙ m.border p (λ v l. b v (omega arith))) (lt_or_ge p (y * (w + 2) + w + 3 + w)))
-            (lt_or_ge p (y * (w + 2) + w + 3));
+            (λ c. f.above p c ∙ m.border p (λ v l. b v (omega arith))) (cases_lt p (y * (w + 2) + w + 3 + w)))
+            (cases_lt p (y * (w + 2) + w + 3));
       })
     where
       lower : (v : ℕ) → v < y * w → pad_of w v < y * (w + 2) + w + 3

@@ -2,7 +2,7 @@
 -- numbers; the least is the first of them; each task of an assignment has a carrier; the table has the finish of each least path. Assumes
 -- nothing.
 use Rattle.std.proofs.Common.{ℕ, zero, suc, ◌+◌, ◌≤◌, ◌<◌, zero-le, suc-le-suc, ◌≡◌, refl, sym, ap, subst, ◌∙◌, ◌↔◌, ◌≢◌, ◌⊎◌, inl, inr, ⊎_elim, Bool, true, false, cond, not, List, [], ◌∷◌, map, Option, None, Some, not-suc-le-zero, le_of_suc-le-suc, eq-or-lt_of_le, le_refl, arith, length, get_or, ext_get_or, eqb}
-use Rattle.deck.proofs.Members.{Mem, here, there, not-nil, cases_cons, only}
+use Rattle.deck.proofs.Members.{Mem, here, there, not-nil, cases_cons, only, map_mem}
 use Rattle.std.proofs.Math.Nat.{suc_inj}
 use Rattle.std.proofs.Math.Decide.{ℕ_discrete}
 use Rattle.std.proofs.lemmas.List.{length-map}
@@ -14,7 +14,7 @@ use Rattle.deck.specs.Assignments.{barred, arrangements, assignments, entry_at, 
 use Rattle.meaning.specs.Meaning.{◌at◌, Assignment, Unbarred, StrictlyBefore, Less, AllBarred}
 use Rattle.meaning.proofs.Tests.{Says, says_eqb, says_not, says_iff}
 use Rattle.meaning.specs.Sorted.{Sorted}
-use Rattle.meaning.proofs.Lists.{mem_map, map_mem, mem_each, each_mem, mem_select, select_mem, mem_below, get_or_count_from, length_count_from, get_or_tabulate, sorted_select, sorted_map, sorted_count_from, sorted_each, each_at, Head, head_first}
+use Rattle.meaning.proofs.Lists.{mem_map, mem_each, each_mem, mem_select, select_mem, mem_below, get_or_count_from, length_count_from, get_or_tabulate, sorted_select, sorted_map, sorted_count_from, sorted_each, each_at, Head, head_first}
 use Rattle.meaning.proofs.ListTests.{at_mem, says_all_at}
 use Rattle.meaning.proofs.InOrder.{sorted_once, in_order_mem, in_order_sorted}
 

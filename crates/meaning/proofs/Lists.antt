@@ -11,10 +11,6 @@ module _ {A B : Type 0} where
   mem_map f (x ∷ xs) (here e) = (x, here refl, e)
   mem_map f (x ∷ xs) (there m) = let r = mem_map f xs m in (r.0, there r.1, r.2)
 
-  pub map_mem : (f : A → B) {x : A} {l : List A} → Mem x l → Mem (f x) (map f l)
-  map_mem f (here e) = here (ap f e)
-  map_mem f (there m) = there (map_mem f m)
-
   pub mem_each : (f : A → List B) (l : List A) {y : B} → Mem y (each f l) → (x : A) × Mem x l × Mem y (f x)
   mem_each f [] m = absurd (not-nil m)
   mem_each f (x ∷ xs) {y} m = split (cases_append (f x) m) (λ (m' : Mem y (each f xs)). mem_each f xs m')

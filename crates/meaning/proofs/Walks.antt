@@ -1,12 +1,12 @@
 -- The walks that are enumerated are those that go by steps, and they stand in the order of lists. Assumes nothing.
 use Rattle.std.proofs.Common.{ℕ, zero, suc, ◌<◌, ◌≡◌, refl, ap, ◌↔◌, inl, inr, List, [], ◌∷◌, not-suc-le-zero, arith, length, T}
-use Rattle.deck.proofs.Members.{Mem, here, not-nil, cast, only}
+use Rattle.deck.proofs.Members.{Mem, here, not-nil, cast, only, map_mem}
 use Rattle.deck.specs.Lists.{below, each}
 use Rattle.deck.specs.Sheet.{Sheet, area}
 use Rattle.deck.specs.Paths.{may_step, steps, walks}
 use Rattle.meaning.specs.Meaning.{◌at◌, Before}
 use Rattle.meaning.specs.Sorted.{Sorted}
-use Rattle.meaning.proofs.Lists.{mem_map, map_mem, mem_each, each_mem, mem_select, select_mem, mem_below, sorted_select, sorted_map, sorted_count_from, sorted_each}
+use Rattle.meaning.proofs.Lists.{mem_map, mem_each, each_mem, mem_select, select_mem, mem_below, sorted_select, sorted_map, sorted_count_from, sorted_each}
 
 -- the places that a step may lead to are those of the grid that the test allows
 pub step_iff : (d : Sheet) (u v : ℕ) → Mem v (steps d u) ↔ ((v < area d) × T (may_step d u v))

@@ -1,4 +1,5 @@
 -- The code's layers are the layers of the two passes. Assumes nothing.
+use Rattle.std.proofs.lemmas.Bool.{cases_lt}
 use Prim.Native.Nat.{ℕ, suc, ◌+◌, ◌-◌, ◌≤◌, ◌<◌}
 use mathlib.Core.Path.{◌≡◌, refl, sym, ap, ◌∙◌, subst}
 use mathlib.Core.Logic.{⊎_elim}
@@ -7,19 +8,19 @@ use mathlib.Core.List.{List, reverse}
 use native.Mathlib.Nat.{eq-or-lt_of_le}
 use native.Mathlib.Numerals.{add-one}
 use native.Mathlib.Omega.{arith}
-use lib.ListN.{length, get_or, replicate, length-replicate, get_or-replicate, get_or-eq_default}
+use lib.ListN.{length, get_or, replicate, length-replicate}
 use lib.Dec.{T, leb, ltb, leb→le, le→leb, ltb→lt, lt→ltb}
 use Rattle.deck.specs.Sheet.{Sheet, read, area, carrier, start_of, goals_of, last_goal}
 use Rattle.deck.specs.Calls.{constraints_of}
 use Rattle.deck.specs.declared.Carrier.{Carrier}
 use Rattle.deck.specs.declared.Task.{Task}
 use Rattle.deck.specs.declared.Constraint.{Constraint}
+use Rattle.meaning.proofs.Lists.{get_or_same}
 use Rattle.sheet.proofs.Accepted.{goal_on_grid, last_goal_on_grid, start_on_grid}
 use Rattle.kernel.specs.Labels.{all_goals}
 use Rattle.kernel.specs.Parts.{rest_from}
 use Rattle.kernel.specs.Kernel.{fore, hind, meets_at, LeastTime}
 use Rattle.kernel.proofs.Both.{and_left, and_right, and_both}
-use Rattle.kernel.proofs.Choice.{lt_or_ge}
 use Rattle.kernel.proofs.Blocked.{fore_blocked, hind_blocked}
 use Rattle.kernel.proofs.Bounds.{fore_le, hind_le}
 use Rattle.bars.specs.Padded.{pad_of, Holds}
@@ -155,7 +156,7 @@ module _ (s : List ℕ) (i : Carrier) (j : Task) (mask rs : List ℕ) (r : Ready
     pub time_here : NotYet t → b ≡ true → LeastTime d i j cs t
     time_here never e = record {
       meets = λ _. met_true e;
-      first = λ m k q. ⊎_elim (λ z. absurd (never m z q)) (λ z. z) (lt_or_ge m t);
+      first = λ m k q. ⊎_elim (λ z. absurd (never m z q)) (λ z. z) (cases_lt m t);
     }
 
     pub not_here : NotYet t → b ≡ false → NotYet (t + 1)
@@ -185,11 +186,7 @@ pub place_small : {s : List ℕ} {i : Carrier} {j : Task} {mask rs : List ℕ} �
 place_small {s} r {w} {v} {p} {u} e f h g = rw (g, e, f) (pad_small r u h)
 
 pub zeros_margin : (w h : ℕ) → Margin w h (replicate 1156 0)
-zeros_margin w h = record { size = length-replicate {A = ℕ} 1156 0; over = λ p l. zeros p; under = λ p l. zeros p }
-  where
-    zeros : (q : ℕ) → get_or {A = ℕ} (replicate 1156 0) q 0 ≡ 0
-    zeros q = ⊎_elim (λ h. get_or-replicate {A = ℕ} 1156 q 0 0 h)
-        (λ h. get_or-eq_default (replicate {A = ℕ} 1156 0) 0 {n = q} (omega (arith, length-replicate {A = ℕ} 1156 0))) (lt_or_ge q 1156)
+zeros_margin w h = record { size = length-replicate {A = ℕ} 1156 0; over = λ p l. get_or_same {A = ℕ} 0 1156 p; under = λ p l. get_or_same {A = ℕ} 0 1156 p }
 
 module _ (s : List ℕ) (i : Carrier) (j : Task) (mask goals rs : List ℕ) (from n p : ℕ) (q : Sweep s i j mask goals rs from n p) where
   -- the task can be finished at t, the first such time

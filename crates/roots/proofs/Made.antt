@@ -1,5 +1,6 @@
 -- A root made of the next assignment: its slots and those that were left hold what remains. Assumes nothing.
 use Rattle.std.proofs.Common.{ℕ, ◌+◌, ◌*◌, ◌-◌, ◌<◌, ◌≤◌, ◌≡◌, refl, sym, ap, subst, ◌∙◌, ⊎_elim, Bool, true, false, cond, List, [], ◌∷◌, ◌++◌, arith, set, take, length, replicate, get_or-set_same, get_or-set_other, take_at, get_or-take, eqb, eq-eqb, ne_eqb, Option, None, Some}
+use Rattle.std.proofs.lemmas.Bool.{cases_lt}
 use mathlib.Core.List.Memᴰ.{append_cases as cases_append}
 use mathlib.Core.List.Memᴰ.{append_left as in_left}
 use mathlib.Core.List.Memᴰ.{append_right as in_right}
@@ -16,7 +17,6 @@ use Rattle.meaning.specs.Meaning.{◌at◌, Assignment}
 use Rattle.meaning.specs.Sorted.{Sorted}
 use Rattle.meaning.proofs.Lists.{mem_count_from, sorted_append}
 use Rattle.meaning.proofs.Assignments.{least_assignment_meant}
-use Rattle.prices.proofs.Growth.{lower}
 use Rattle.partition.specs.Parts.{none_closed, slot_part, Slot, slot_with, slots_of, candidate, Apart, Holds, Best}
 use Rattle.partition.proofs.Candidates.{Candidate, candidate_meant}
 use Rattle.partition.proofs.Splits.{none_closed_lem}
@@ -185,7 +185,7 @@ module _ (m : ℕ) (table before mid : List ℕ) (latest made n j : ℕ) (rest :
       one : (xs : List ℕ) → ((x : ℕ) → xs at x < 256) → Dec (i ≡ k) → set xs k 1 at i < 256
       one xs h (yes e) = ⊎_elim
           (λ l. rw (e, get_or-set_same xs k 1 0 l) (omega arith))
-          (λ l. subst (λ (y : List ℕ). y at i < 256) (sym (set_out xs k 1 l)) (h i)) (lower k (length xs))
+          (λ l. subst (λ (y : List ℕ). y at i < 256) (sym (set_out xs k 1 l)) (h i)) (cases_lt k (length xs))
       one xs h (no e) = rw (get_or-set_other xs k i 1 0 e) (h i)
 
       go : Dec (i ≡ k) → s.part.closed at i < 256
