@@ -1,5 +1,5 @@
 -- Laws of the lists that the definitions are made of: what stands in them, and in what order. Assumes nothing.
-use Rattle.std.proofs.Common.{ℕ, zero, suc, ◌+◌, ◌*◌, ◌≤◌, ◌<◌, ◌≡◌, refl, sym, ap, subst, ◌∙◌, ◌↔◌, ◌⊎◌, inl, inr, ⊎_elim, Bool, true, false, cond, List, [], ◌∷◌, ◌++◌, map, append-nil, append_assoc, Option, None, Some, not-suc-le-zero, eq-or-lt_of_le, le_trans, le_refl, le_of_lt, le_of_suc-le-suc, suc-mul, mul-le-mul_right, arith, length, get_or, take, drop, replicate, get_or-append-add, drop-drop, T, leb, leb-true, leb-false}
+use Rattle.std.proofs.Common.{ℕ, zero, suc, ◌+◌, ◌*◌, ◌≤◌, ◌<◌, ◌≡◌, refl, sym, ap, subst, ◌∙◌, ◌↔◌, ◌⊎◌, inl, inr, ⊎_elim, Bool, true, false, cond, List, [], ◌∷◌, ◌++◌, map, append-nil, append_assoc, Option, None, Some, not-suc-le-zero, eq-or-lt_of_le, le_trans, le_refl, le_of_lt, le_of_suc-le-suc, suc-mul, arith, length, get_or, take, drop, replicate, get_or-append-add, drop-drop, T, leb, leb-true, leb-false}
 use Rattle.deck.proofs.Members.{Mem, here, there, not-nil, cases_cons, in_left, in_right, cases_append}
 use Rattle.std.proofs.lemmas.List.{length-map, get_or_append_left}
 use Rattle.deck.specs.Lists.{count_from, below, sum, select, each, pieces, take_least, pick_least, head_of}
@@ -111,10 +111,6 @@ piece_at (suc m) n l zero h = let e : 0 * n ≡ 0 = omega arith in rw e
 piece_at (suc m) n l (suc i) h =
     let e : n + i * n ≡ suc i * n = omega (arith, suc-mul i n) in
     piece_at m n (drop n l) i (omega arith) ∙ ap (take n) (drop-drop (i * n) n l ∙ ap (λ k. drop k l) e)
-
--- and ends within the words of m pieces
-pub piece_inside : (i n m words : ℕ) → i < m → m * n ≤ words → i * n + n ≤ words
-piece_inside i n m words h k = omega (arith, suc-mul i n, mul-le-mul_right n h)
 
 -- the lists of the first elements, one more
 pub each_take : {A B : Type 0} (f : A → List B) (l : List A) (t : ℕ) (d : A) → t < length l → each f (take (suc t) l) ≡ each f (take t l) ++ f (get_or l t d)
