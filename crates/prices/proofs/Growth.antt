@@ -1,7 +1,7 @@
 -- One round of the Hungarian method: the tree of a row grows over entries of least slack until it reaches a free column, and the
 -- way back to the row is turned. Assumes nothing.
 use Rattle.std.proofs.Common.{ℕ, zero, suc, ◌+◌, ◌≤◌, ◌<◌, ◌≡◌, refl, sym, ap, subst, ◌∙◌, ◌⊎◌, inl, inr, ⊎_elim, ◌≢◌, Bool, true, false, map, not-suc-le-zero, le_refl, eq-or-lt_of_le, le_of_suc-le-suc, arith}
-use Rattle.std.proofs.lemmas.Bool.{false≢true, cases_lt, cases_Bool}
+use Rattle.std.proofs.lemmas.Bool.{cases_lt, cases_Bool}
 use Rattle.std.proofs.Math.Decide.{ℕ_discrete}
 use Rattle.std.proofs.lemmas.List.{length-map}
 use Rattle.deck.specs.Lists.{below}
@@ -9,9 +9,6 @@ use Rattle.meaning.specs.Meaning.{◌at◌, Assignment}
 use Rattle.meaning.proofs.Lists.{get_or_tabulate, length_count_from}
 use Rattle.meaning.proofs.Assignments.{each_assigned}
 use Rattle.prices.specs.Matching.{Tight, AtMost, Bounded, Put, Raised, LeastSlack, Matches, Reached, Tree, Turning}
-
-clash : {b : Bool} → b ≡ true → b ≡ false → ⊥
-clash e f = false≢true (sym f ∙ e)
 
 -- only the prices of rows and columns below m count
 pub same_prices : (m : ℕ) (c : ℕ → ℕ → ℕ) (r : ℕ) (u v task carrier u' v' : ℕ → ℕ) → Matches m c r u v task carrier
@@ -102,7 +99,7 @@ module _ (m : ℕ) (c : ℕ → ℕ → ℕ) (r : ℕ) (u v task carrier : ℕ �
       where
         inside : (carrier k ≡ r) ⊎ ((task (carrier k) < m) × (columns (task (carrier k)) ≡ true)) → ⊥
         inside (inl e) = omega (arith, M.unmatched r (le_refl r) lr, M.task_of k lk l, ap task e)
-        inside (inr (t, e)) = clash (rw (M.task_of k lk l) at e) out
+        inside (inr (t, e)) = cc (M.task_of k lk l)
 
     module _ (i j d : ℕ) (L : LeastSlack m c u v rows columns i j d) where
       -- the raised prices fit where the entries fit
@@ -149,7 +146,7 @@ module _ (m : ℕ) (c : ℕ → ℕ → ℕ) (r : ℕ) (u v task carrier : ℕ �
         module _ (from' order' : ℕ → ℕ) (F : Put from j i from') (O : Put order j n order') where
           -- a column of the tree is another than j
           other_column : (k : ℕ) → columns k ≡ true → k ≢ j
-          other_column k e q = clash (subst (λ (z : ℕ). columns z ≡ true) q e) L.to_column
+          other_column k e q = cc
 
           order_kept : (k : ℕ) → columns k ≡ true → order' k ≡ order k
           order_kept k e = O.other k (other_column k e)
