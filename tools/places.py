@@ -5,6 +5,7 @@ usage, at the top of the repository:
     python3 tools/places.py           a line for each point and pattern: how many places
     python3 tools/places.py N         every place of point N: crate/file:line  text
     python3 tools/places.py table     crate by point, in Markdown
+    python3 tools/places.py kept      the places of point 8 that a line `-- Kept: ..` explains: at the head of their file, or right above them
 
 A pattern whose name begins with ~ is listed and counted apart: a person has to say which of its places are places of the point.
 """
@@ -628,6 +629,21 @@ def point_8(code):
             yield Place("~ lemmas with the name of one of the library", l.path, l.line, l.name)
 
 
+def comment_block(lines, line):
+    """The lines of comment right above a line, and at the line itself."""
+    k = line - 1
+    while k > 0 and lines[k - 1].strip().startswith("--"):
+        k -= 1
+    return lines[k:line]
+
+
+def kept_in_proofs(p):
+    """Whether a comment at the head of the place's file or right above the place says why it stays."""
+    lines = text_of(p.path).split("\n")
+    head = next((k for k, line in enumerate(lines) if not line.startswith("--")), len(lines))
+    return any(line.strip().startswith("-- Kept: ") for line in lines[:head] + comment_block(lines, p.line))
+
+
 # OUTPUT
 
 
@@ -647,6 +663,13 @@ def show_places(code, n):
         print("%s:%d  [%s] %s" % (p.path.replace("crates/", "", 1), p.line, p.part, p.text))
 
 
+def show_kept(code):
+    kept = [p for p in point_8(code) if p.part[0] != "~" and kept_in_proofs(p)]
+    for p in kept:
+        print("%s:%d  [%s] %s" % (p.path.replace("crates/", "", 1), p.line, p.part, p.text))
+    print("%d kept with a reason" % len(kept))
+
+
 def show_table(code):
     by = collections.Counter((crate_of(p.path), n) for n, point in enumerate(POINTS, 1) for p in point(code) if p.part[0] != "~")
     print("| Crate | " + " | ".join(str(n) for n in range(1, 9)) + " |\n" + "|---" * 9 + "|")
@@ -660,6 +683,8 @@ def main():
     word = sys.argv[1] if len(sys.argv) > 1 else ""
     if word == "table":
         show_table(code)
+    elif word == "kept":
+        show_kept(code)
     elif word:
         show_places(code, int(word))
     else:

@@ -1,6 +1,7 @@
 -- Prices that serve the least assignment: those of the solver on plain weights, or rounded ones that pass the test. Row plus column
 -- price is then at most each entry that is not barred, and equals it on the chosen ones. Assumes nothing.
 use Rattle.std.proofs.Common.{ℕ, ◌+◌, ◌≤◌, ◌<◌, ◌≡◌, sym, ap, subst, ◌∙◌, ◌⊎◌, inl, inr, ⊎_elim, ◌≢◌, false, List, Some, arith, get_or, take, pos, ◌+ℤ◌, ◌-ℤ◌, ◌≤ℤ◌}
+use Rattle.std.proofs.lemmas.Bool.{cases_lt}
 use lib.ListN.{get_or-append}
 use lib.IntN.{ℤ, -ℤ-+ℤ_cancel}
 use Rattle.deck.specs.Assignments.{barred, entry_at, sum_of, least_assignment}
@@ -11,7 +12,6 @@ use Rattle.prices.specs.Matching.{cost, AtMost}
 use Rattle.prices.specs.Weights.{heavy, weigh, weights}
 use Rattle.prices.specs.Square.{cell, copied}
 use Rattle.prices.proofs.Squares.{square_at}
-use Rattle.prices.proofs.Growth.{lower}
 use Rattle.prices.proofs.Duality.{least_tight}
 use Rattle.prices.proofs.First.{weigh_open, light_unbarred, unbarred_cost, unbarred_light}
 use Rattle.hungarian.specs.Solving.{Solved}
@@ -47,7 +47,7 @@ module _ (m : ℕ) (small : m ≤ 12) (t w u v task carrier : List ℕ) (W : Wei
         rw (weights_cost m small false t w W a open_a.0, weights_cost m small false t w W b B)
         (⊎_elim
         (λ l. let o = light_unbarred m small table words b B l in go o ((least_assignment_meant m table a least).1 b o))
-        (λ l. omega (arith, unbarred_light m small table words a open_a, l)) (lower (cost m (weights m table) b) heavy))
+        (λ l. omega (arith, unbarred_light m small table words a open_a, l)) (cases_lt (cost m (weights m table) b) heavy))
       where
         b : List ℕ
         b = take m task

@@ -1,11 +1,11 @@
 // The assignments in order, each the first of a slot of those before: a tournament of at most 8 roots, with 12 slots to a root.
 ghost use Rattle.std.specs.Prelude.{◌≤◌, ◌<◌};
 
-use crate::list;
 use candidates::Candidate;
 use deck::Carrier;
 use std::io;
 use tables::Part;
+use testing::Spaced;
 
 // A part of the assignments that remain, and the first of them.
 #[derive(Clone, Copy)]
@@ -24,11 +24,11 @@ impl Slot {
     }
 }
 
-// The slot of carrier j of a root, where its part has an assignment.
+// The slot of carrier j of a root, where its part has an assignment. The tasks of a root's list are below m, which no contract here says.
 fn slot_of(m: usize, t: &[u16; 144], root: &Part, j: Carrier) -> Option<Slot>
     requires { (m ≤ 12) × (j.0 < m) }
 {
-    if 12 <= root.tasks[j.0] {
+    if m <= usize::from(root.tasks[j.0]) {
         return None;
     }
     Some(Slot {
@@ -41,11 +41,12 @@ fn slot_of(m: usize, t: &[u16; 144], root: &Part, j: Carrier) -> Option<Slot>
 fn opened(m: usize, t: &[u16; 144], root: &Part) -> [Option<Slot>; 12]
     requires { m ≤ 12 }
 {
-    let mut slots = [None; 12];
-    for j in root.row.0..m {
-        slots[j] = slot_of(m, t, root, Carrier(j));
-    }
-    slots
+    std::array::from_fn(|j| {
+        if j < root.row.0 || m <= j {
+            return None;
+        }
+        slot_of(m, t, root, Carrier(j))
+    })
 }
 
 // The slot whose first assignment comes first; it is taken out.
@@ -59,8 +60,10 @@ fn take_first(slots: &mut [[Option<Slot>; 12]; 8]) -> Option<Slot> {
 }
 
 // Lists the assignments after the first, up to 8 and up to `most` in all.
-pub fn list_next(rt: &impl Print, m: usize, table: &[u16], most: usize) -> io::Result<()> {
-    if m < 1 || 12 < m || table.len() != m * m {
+pub fn list_next(rt: &impl Print, m: usize, table: &[u16], most: usize) -> io::Result<()>
+    requires { m ≤ 12 }
+{
+    if table.len() != m * m {
         return Ok(());
     }
     let t = tables::filled(m, table);
@@ -87,12 +90,13 @@ fn list_from(
     };
     let mut slots = [[None; 12]; 8];
     slots[0] = opened(m, t, &root);
+    // Kept: an index, since the slots of all roots are looked at before those of the next are written.
     for k in 1..most.min(8) {
         let Some(slot) = take_first(&mut slots) else {
             return Ok(());
         };
-        print!(rt; "next ")?;
-        list(rt, slot.first.sum as usize, &slot.first.tasks)?;
+        let Candidate { sum, tasks } = slot.first;
+        println!(rt; "next {sum}:{}", Spaced(&tasks[..m]))?;
         slots[k] = opened(m, t, &slot.root());
     }
     Ok(())

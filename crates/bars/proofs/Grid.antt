@@ -1,5 +1,6 @@
 -- The padded grid: no two places have one padded number, and the places around a place are one and one row apart; past the
 -- grid's edge lies the border. Assumes nothing.
+use Rattle.std.proofs.lemmas.Bool.{cases_lt}
 use Prim.Native.Nat.{ℕ, suc, ◌+◌, ◌-◌, ◌*◌, ◌/◌, ◌%◌, ◌≤◌, ◌<◌}
 use mathlib.Core.Path.{◌≡◌, sym, ap, ◌∙◌}
 use mathlib.Core.Logic.{⊎_elim}
@@ -8,7 +9,6 @@ use native.Mathlib.Omega.{arith}
 use lib.Dec.{T, leb→le, le→leb, ltb→lt, lt→ltb}
 use Rattle.deck.specs.Sheet.{Sheet, area}
 use Rattle.kernel.specs.Near.{has_above, has_left, has_right, has_below}
-use Rattle.kernel.proofs.Choice.{lt_or_ge}
 use Rattle.kernel.proofs.Near.{wide_of, left_row, right_row}
 use Rattle.bars.specs.Padded.{pad_of, Border}
 
@@ -21,7 +21,7 @@ rows_apart w u v z h =
 -- places whose padded numbers are at most two apart are in one row
 one_row : (w u v : ℕ) → 0 < w → pad_of w u < pad_of w v + 3 → pad_of w v < pad_of w u + 3 → u / w ≡ v / w
 one_row w u v z a b = ⊎_elim (λ h. absurd (omega (arith, rows_apart w u v z h)))
-    (λ h. ⊎_elim (λ k. absurd (omega (arith, rows_apart w v u z k))) (λ k. omega arith) (lt_or_ge (v / w) (u / w))) (lt_or_ge (u / w) (v / w))
+    (λ h. ⊎_elim (λ k. absurd (omega (arith, rows_apart w v u z k))) (λ k. omega arith) (cases_lt (v / w) (u / w))) (cases_lt (u / w) (v / w))
 
 pub pad_inj : (w u v : ℕ) → 0 < w → pad_of w u ≡ pad_of w v → u ≡ v
 pad_inj w u v z e = omega (arith, one_row w u v z (omega arith) (omega arith))
@@ -62,7 +62,7 @@ module _ (d : Sheet) (v : ℕ) (on : v < area d) where
 
   pub border_above : ¬ T (has_above d v) → Border d (pad_of d.width v - (d.width + 2))
   border_above n u k e =
-      let l : v < d.width = ⊎_elim (λ h. h) (λ h. absurd (n (le→leb d.width v h))) (lt_or_ge v d.width) in
+      let l : v < d.width = ⊎_elim (λ h. h) (λ h. absurd (n (le→leb d.width v h))) (cases_lt v d.width) in
       omega (arith, div-eq_of_lt l)
 
   pub pad_left : T (has_left d v) → pad_of d.width (v - 1) ≡ pad_of d.width v - 1
@@ -73,7 +73,7 @@ module _ (d : Sheet) (v : ℕ) (on : v < area d) where
 
   pub border_left : ¬ T (has_left d v) → Border d (pad_of d.width v - 1)
   border_left n u k e =
-      let l : v % d.width ≡ 0 = ⊎_elim (λ h. absurd (n (lt→ltb 0 (v % d.width) h))) (λ h. omega arith) (lt_or_ge 0 (v % d.width)) in
+      let l : v % d.width ≡ 0 = ⊎_elim (λ h. absurd (n (lt→ltb 0 (v % d.width) h))) (λ h. omega arith) (cases_lt 0 (v % d.width)) in
       let r = one_row d.width u v wide (omega arith) (omega arith) in
       let p : u / d.width * d.width ≡ v / d.width * d.width = ap (λ (x : ℕ). x * d.width) r in
       omega (arith, div-add-mod' u d.width, div-add-mod' v d.width)
@@ -85,13 +85,13 @@ module _ (d : Sheet) (v : ℕ) (on : v < area d) where
 
   pub border_right : ¬ T (has_right d v) → Border d (pad_of d.width v + 1)
   border_right n u k e =
-      let l : d.width ≤ suc (v % d.width) = ⊎_elim (λ h. absurd (n (lt→ltb (suc (v % d.width)) d.width h))) (λ h. h) (lt_or_ge (suc (v % d.width)) d.width) in
+      let l : d.width ≤ suc (v % d.width) = ⊎_elim (λ h. absurd (n (lt→ltb (suc (v % d.width)) d.width h))) (λ h. h) (cases_lt (suc (v % d.width)) d.width) in
       let r = one_row d.width u v wide (omega arith) (omega arith) in
       let p : u / d.width * d.width ≡ v / d.width * d.width = ap (λ (x : ℕ). x * d.width) r in
       omega (arith, div-add-mod' u d.width, div-add-mod' v d.width, mod-lt u wide)
 
   pub border_below : ¬ T (has_below d v) → Border d (pad_of d.width v + (d.width + 2))
   border_below n u k e =
-      let l : area d ≤ v + d.width = ⊎_elim (λ h. absurd (n (lt→ltb (v + d.width) (area d) h))) (λ h. h) (lt_or_ge (v + d.width) (area d)) in
+      let l : area d ≤ v + d.width = ⊎_elim (λ h. absurd (n (lt→ltb (v + d.width) (area d) h))) (λ h. h) (cases_lt (v + d.width) (area d)) in
       let i = pad_inj d.width u (v + d.width) wide (e ∙ sym (pad_below d.width v wide)) in
       omega arith

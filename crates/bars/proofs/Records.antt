@@ -3,10 +3,8 @@ use Rattle.std.proofs.Common.{ℕ, zero, suc, ◌/◌, ◌<◌, ◌≡◌, refl,
 use Rattle.std.specs.List.{list_all, range_with_len}
 use Rattle.std.proofs.lemmas.List.{length-map, get_or-map}
 use Rattle.std.proofs.lemmas.List.FromFn.{fill_by_all}
-use mathlib.Core.List.{Memᴰ as Mem}
-use mathlib.Core.Bool.{false≢true}
-use mathlib.Core.List.Memᴰ.{head as here}
-use mathlib.Core.List.Memᴰ.{tail as there}
+use Rattle.deck.proofs.Members.{Mem, here, there}
+use Rattle.std.proofs.lemmas.Bool.{false≢true}
 use Rattle.deck.specs.Lists.{below, all}
 use Rattle.deck.specs.Sheet.{carrier}
 use Rattle.deck.specs.Calls.{record_word, constraint_of, constraint_at, constraints_of}

@@ -1,5 +1,6 @@
 -- What is cleared along a chain is what the carrier's constraints bar. Assumes nothing.
 use Rattle.std.proofs.Common.{ℕ, zero, suc, ◌+◌, ◌≤◌, ◌<◌, ◌≡◌, refl, sym, ap, ◌∙◌, subst, Bool, true, false, cond, not, List, [], ◌∷◌, length, get_or, Option, Some, None, T, eqb, arith}
+use Rattle.std.proofs.lemmas.Bool.{cases_lt}
 use Rattle.std.specs.List.{list_all}
 use mathlib.Core.List.{Memᴰ as Mem}
 use mathlib.Core.Logic.{◌⊎◌, inl, inr, ⊎_elim}
@@ -15,7 +16,6 @@ use Rattle.deck.specs.declared.Constraint.{Constraint}
 use Rattle.deck.specs.declared.Constraint.TheVariants.{Place, Move}
 use Rattle.meaning.proofs.Tests.{says_eqb, says_and}
 use Rattle.kernel.specs.Parts.{free_place, free_move}
-use Rattle.kernel.proofs.Choice.{lt_or_ge}
 use Rattle.bars.specs.Padded.{pad_of}
 use Rattle.bars.specs.Bars.{OnLayer, OnPadded, ours_at, moves, stands_on, way_of, slot_of, move_slot, place_slot, SlotIn, Cleared}
 use Rattle.bars.proofs.Records.{each_passes, one_fails, move_ours, place_ours, ours_on}
@@ -93,7 +93,7 @@ module _ (n : ℕ) (slot : Constraint → ℕ) where
       }
     where
       zero_at : get_or (set x (slot c) 0) (slot c) 0 ≡ 0
-      zero_at = zero_set (lt_or_ge (slot c) (length x))
+      zero_at = zero_set (cases_lt (slot c) (length x))
         where
           zero_set : (slot c < length x) ⊎ (length x ≤ slot c) → get_or (set x (slot c) 0) (slot c) 0 ≡ 0
           zero_set (inl h) = get_or-set_same x (slot c) 0 0 h
@@ -196,7 +196,7 @@ module _ (rs : List ℕ) (i t w : ℕ) (z : 0 < w) (before after : List ℕ) whe
   place_cleared v size c = ⊎_elim
       (λ l. by_slots (place_slot w) (stands_on v) _ (place_ours rs i t v) _ (λ b m. hits l b) (λ b m. has b) c)
       (λ l. past (free_place (carrier i) (constraints_of rs) t v) (get_or-eq_default after 0 (omega (arith, c.size))) (get_or-eq_default before 0 (omega arith)))
-      (lt_or_ge (pad_of w v) 1156)
+      (cases_lt (pad_of w v) 1156)
     where
       past : (b : Bool) {x y : ℕ} → x ≡ 0 → y ≡ 0 → x ≡ cond b y 0
       past true e f = e ∙ sym f

@@ -1,10 +1,10 @@
 -- A layer copied to the table row by row. Assumes nothing.
 use Rattle.std.proofs.Common.{ℕ, ◌+◌, ◌-◌, ◌*◌, ◌≤◌, ◌<◌, ◌≡◌, ap, ◌∙◌, ⊎_elim, List, suc-mul, add-mul, mul-add, mul_comm, mul-le-mul_right, arith, length, get_or, rules, drop, sym}
+use Rattle.std.proofs.lemmas.Bool.{cases_lt}
 use borrow.Rule.Slice.PartMut.{put_mid, same_len_mid}
 use Rattle.std.specs.List.{between}
 use Rattle.std.proofs.lemmas.List.{places, length-drop, length-take-le}
 use Rattle.std.proofs.lemmas.List.Edits.{length-between, get_or-between}
-use Rattle.kernel.proofs.Choice.{lt_or_ge}
 use Rattle.bars.specs.Padded.{pad_of}
 use Rattle.bars.proofs.Grid.{pad_row, size_small}
 use Rattle.layers.specs.Fill.{Filled}
@@ -38,7 +38,7 @@ module _ (layer : List ℕ) (w h at : ℕ) (z : 1 ≤ w) where
       let g = filled_part table row (at + y * w) k (omega (arith, rows_in w h y l, f.size)) long in
       filled_all at entry first (omega (arith, add-mul y 1 w)) (record {
         size = g.size ∙ f.size;
-        inside = λ p a b. ⊎_elim (λ i. g.below p i ∙ f.inside p a i) (λ i. g.inside p i b ∙ same p i (omega arith)) (lt_or_ge p (at + y * w));
+        inside = λ p a b. ⊎_elim (λ i. g.below p i ∙ f.inside p a i) (λ i. g.inside p i b ∙ same p i (omega arith)) (cases_lt p (at + y * w));
         below = λ p a. g.below p (omega arith) ∙ f.below p a;
         above = λ p a. g.above p a ∙ f.above p (omega arith);
       })

@@ -1,7 +1,8 @@
 -- The test of a layer, place by place. Assumes nothing.
 use Rattle.std.proofs.Common.{ℕ, suc, ◌+◌, ◌-◌, ◌≤◌, ◌<◌, max, min, ◌≡◌, ◌≢◌, refl, sym, subst, ◌⊎◌, inl, inr, ⊎_elim, List, eq-or-lt_of_le, arith, get_or, replicate, T}
-use lib.ListN.{length-replicate, get_or-replicate, get_or-eq_default}
-use Rattle.kernel.proofs.Choice.{lt_or_ge}
+use Rattle.std.proofs.lemmas.Bool.{cases_lt}
+use Rattle.std.proofs.lemmas.List.{length-replicate, get_or-replicate}
+use Rattle.std.proofs.Math.ListN.{get_or-eq_default}
 use Rattle.bars.specs.Ways.{number_of, move_by, way_back, opens_by}
 use Rattle.bars.specs.declared.Way.{Way}
 use Rattle.bars.specs.declared.Way.TheVariants.{Above, Left, Same, Right, Below}
@@ -68,7 +69,7 @@ even_of {counts} {x} {mask} {wide} {end} k h p y a b f =
 -- zeros pass the test
 zeros : (q : ℕ) → get_or {A = ℕ} (replicate 1156 0) q 0 ≡ 0
 zeros q = ⊎_elim (λ h. get_or-replicate {A = ℕ} 1156 q 0 0 h)
-    (λ h. get_or-eq_default (replicate {A = ℕ} 1156 0) 0 {n = q} (omega (arith, length-replicate {A = ℕ} 1156 0))) (lt_or_ge q 1156)
+    (λ h. get_or-eq_default (replicate {A = ℕ} 1156 0) 0 {n = q} (omega (arith, length-replicate {A = ℕ} 1156 0))) (cases_lt q 1156)
 
 pub zero_layer : (mask : List ℕ) (w h goal base : ℕ) → LayerBounds mask w h goal base (replicate 1156 0)
 zero_layer mask w h goal base = record {

@@ -1,5 +1,6 @@
 -- The order of candidates as the code compares them is the order of assignments. Assumes nothing.
 use Rattle.std.proofs.Common.{Option, Some, Ordering, eq-eqb, ne_eqb, ◌≢◌, ℕ, zero, suc, ◌+◌, ◌-◌, ◌≤◌, ◌<◌, suc-le-suc, zero-le, ◌≡◌, refl, sym, ap, subst, ◌∙◌, ◌⊎◌, inl, inr, ⊎_elim, Bool, true, false, cond, List, [], ◌∷◌, le_of_suc-le-suc, arith, length, replicate, get_or-append-add, ltb, lt-ltb, le-ltb}
+use Rattle.std.proofs.lemmas.Bool.{cases_lt}
 use native.Mathlib.Nat.{suc_inj}
 use lib.ListN.{get_or-append, get_or-replicate}
 use Rattle.std.specs.Ordering.{nat_cmp, is_lt, is_some_and, partial_lt, partial_ordering_then}
@@ -10,7 +11,6 @@ use Rattle.deck.specs.Assignments.{sum_of}
 use Rattle.deck.specs.Calls.{task_list}
 use Rattle.meaning.specs.Meaning.{◌at◌, StrictlyBefore, Less}
 use Rattle.meaning.proofs.Tests.{Says}
-use Rattle.prices.proofs.Growth.{lower}
 use Rattle.candidates.specs.Candidates.{less_from, earlier, candidate_of}
 
 -- a comparison of two numbers, and of what follows where they are equal
@@ -19,13 +19,13 @@ module _ (x y : ℕ) (b : Bool) where
   then = cond (ltb x y) true (cond (ltb y x) false b)
 
   says_then : {P : Type 0} → Says b P → Says then ((x < y) ⊎ ((x ≡ y) × P))
-  says_then {P} s = ⊎_elim less no_less (lower x y)
+  says_then {P} s = ⊎_elim less no_less (cases_lt x y)
     where
       less : x < y → Says then ((x < y) ⊎ ((x ≡ y) × P))
       less h = rw (lt-ltb x y h) (record { fact = λ t. inl h; test = λ p. tt })
 
       no_less : y ≤ x → Says then ((x < y) ⊎ ((x ≡ y) × P))
-      no_less h = ⊎_elim more same (lower y x)
+      no_less h = ⊎_elim more same (cases_lt y x)
         where
           more : y < x → Says then ((x < y) ⊎ ((x ≡ y) × P))
           more k = rw (le-ltb x y h, lt-ltb y x k) (record { fact = λ t. absurd t; test = ⊎_elim (λ l. absurd (omega arith)) (λ p. absurd (omega (arith, p.0))) })
@@ -81,7 +81,7 @@ says_earlier m table a b small la lb =
 -- THE DERIVED ORDER compares by sum, then list by list
 first_differ : (u v : ℕ) (rest : Option Ordering) (b : Bool) → is_some_and is_lt rest ≡ b
     → is_some_and is_lt (partial_ordering_then (Some (nat_cmp u v)) rest) ≡ cond (ltb u v) true (cond (ltb v u) false b)
-first_differ u v rest b e = ⊎_elim less no_less (lower u v)
+first_differ u v rest b e = ⊎_elim less no_less (cases_lt u v)
   where
     less : u < v → is_some_and is_lt (partial_ordering_then (Some (nat_cmp u v)) rest) ≡ cond (ltb u v) true (cond (ltb v u) false b)
     less h = rw (lt-ltb u v h) refl
@@ -93,7 +93,7 @@ first_differ u v rest b e = ⊎_elim less no_less (lower u v)
     alike h g = rw (le-ltb u v h, eq-eqb u v (omega arith), le-ltb v u g) e
 
     no_less : v ≤ u → is_some_and is_lt (partial_ordering_then (Some (nat_cmp u v)) rest) ≡ cond (ltb u v) true (cond (ltb v u) false b)
-    no_less h = ⊎_elim (more h) (alike h) (lower v u)
+    no_less h = ⊎_elim (more h) (alike h) (cases_lt v u)
 
 pub lists_less : (n i : ℕ) (x y a b : List ℕ) → length a ≡ n → length b ≡ n → ((k : ℕ) → k < n → x at (i + k) ≡ a at k) → ((k : ℕ) → k < n → y at (i + k) ≡ b at k)
     → is_some_and is_lt (slice_partial_cmp (λ u v. Some (nat_cmp u v)) a b) ≡ less_from n i x y

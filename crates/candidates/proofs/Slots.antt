@@ -1,11 +1,11 @@
 -- What a candidate says, and a slot's candidate. Assumes nothing.
 use Rattle.std.proofs.Common.{Option, None, Some, ℕ, ◌<◌, ◌≡◌, refl, sym, ap, ◌∙◌, ⊎_elim, List, arith, take, get_or-take, lt-ltb, le-ltb}
+use Rattle.std.proofs.lemmas.Bool.{cases_lt}
 use Rattle.std.proofs.lemmas.Option.{none-some, same_Some}
 use Rattle.deck.specs.Assignments.{least_assignment}
 use Rattle.meaning.specs.Meaning.{◌at◌}
 use Rattle.prices.specs.Square.{copied}
 use Rattle.prices.proofs.Squares.{square_same}
-use Rattle.prices.proofs.Growth.{lower}
 use Rattle.partition.specs.Parts.{Part, part_entry, part_table, candidate, slot_part}
 use Rattle.partition.proofs.Candidates.{Candidate, candidate_meant, candidate_table, part_sum}
 use Rattle.candidates.specs.declared.Candidate.{Candidate as Found}
@@ -36,7 +36,7 @@ module _ (m : ℕ) (table tasks closed : List ℕ) (row j : ℕ) (low : j < m) w
   unfolding part_entry
   same_entry i k e = ⊎_elim
       (λ l. rw (lt-ltb i j l, get_or-take m tasks i 0 (omega arith)))
-      (λ l. rw (le-ltb i j l, own_task)) (lower i j)
+      (λ l. rw (le-ltb i j l, own_task)) (cases_lt i j)
 
   abbrev table' : List ℕ
   table' = part_table m table q

@@ -1,5 +1,6 @@
 -- Sums of weights carrier by carrier, and the list of 12. Assumes nothing.
 use Rattle.std.proofs.Common.{Option, None, Some, IsSome, rules, get_or, ℕ, ◌+◌, ◌-◌, ◌≤◌, ◌<◌, ◌≡◌, refl, sym, ap, ◌∙◌, ⊎_elim, List, eq-or-lt_of_le, le_of_suc-le-suc, not-suc-le-zero, add-one, arith, length, take, set, replicate, length-set, length-append, ext_get_or, get_or-set_same, get_or-set_other, get_or-append-add, get_or-take, length-take-le}
+use Rattle.std.proofs.lemmas.Bool.{cases_lt}
 use lib.ListN.{length-replicate, get_or-replicate, get_or-append}
 use Rattle.deck.specs.Calls.{task_list}
 use Rattle.deck.specs.declared.Task.{Task}
@@ -8,7 +9,6 @@ use Rattle.hungarian.proofs.Gains.{task_at}
 use Rattle.meaning.specs.Meaning.{◌at◌}
 use Rattle.prices.specs.Matching.{cost}
 use Rattle.prices.proofs.Sums.{sum_next}
-use Rattle.prices.proofs.Growth.{lower}
 
 pub cost_next : (c : ℕ → ℕ → ℕ) (a : List ℕ) (n s x : ℕ) → s ≡ cost n c a → x ≡ c n (a at n) → s + x ≡ cost (n + 1) c a
 cost_next c a n s x e f =
@@ -50,7 +50,7 @@ listed_all m task n tasks small long e L = ext_get_or 0 tasks (task_list (take m
     twelve = length-append (take m task) (replicate (12 - length (take m task)) 255) ∙ omega (arith, length-replicate {A = ℕ} (12 - length (take m task)) 255, taken)
 
     at_index : (i : ℕ) → i < 12 → tasks at i ≡ task_list (take m task) at i
-    at_index i l = ⊎_elim front back (lower i m)
+    at_index i l = ⊎_elim front back (cases_lt i m)
       where
         front : i < m → tasks at i ≡ task_list (take m task) at i
         front h =

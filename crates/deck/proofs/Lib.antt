@@ -1,2 +1,3 @@
+pub mod Members
 pub mod Told
 pub mod Rounds

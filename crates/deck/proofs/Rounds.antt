@@ -1,9 +1,6 @@
 -- The worked rounds hold of the definitions, by computation. Assumes nothing.
 use Rattle.std.proofs.Common.{refl, sym, subst, List, [], ◌∷◌}
-use mathlib.Core.List.Memᴰ.{head as here}
-use mathlib.Core.List.Memᴰ.{not-nil}
-use mathlib.Core.List.Memᴰ.{tail as there}
-use mathlib.Core.List.{Memᴰ as Mem}
+use Rattle.deck.proofs.Members.{Mem, here, there, not-nil}
 use Rattle.deck.specs.Ranks.{insert, sort_by}
 use Rattle.deck.specs.Sheet.{words, good_header, chained, goals_size, good_directory, good_grid, good_starts, good_goals, good_last_goals, cause, sheet_cause}
 use Rattle.deck.specs.Paths.{one_apart, next_to, may_leave, beside, may_step, steps, walks, visit, left, finish, serves, keeps, paths_under, least_path}

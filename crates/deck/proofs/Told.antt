@@ -2,7 +2,6 @@
 -- says which case its answer is. Assumes nothing.
 use Rattle.std.proofs.Common.{ℕ, zero, suc, List, [], ◌∷◌, length, get_or, drop, ℤ, Option, None, Some, Result, Ok, Err, ◌≡◌, refl, sym, ap, ◌∙◌}
 use Rattle.deck.specs.Sheet.{read, carrier}
-use Rattle.deck.specs.Sheet.{read, carrier}
 use Rattle.deck.specs.Causes.{number}
 use Rattle.deck.specs.Calls.{path_cause, path_answer_for, PathCall, assignment_cause, assignment_answer_for, AssignmentCall, search_answer, SearchCall}
 use Rattle.deck.specs.Numbers.{found_numbers, path_numbers, assignment_numbers, sum_told, collision_numbers, search_numbers}

@@ -1,14 +1,10 @@
 -- The root of the next assignment: whether one remains, as the chosen slot says, and the state that is held once it is made. Assumes
 -- nothing.
 use Prim.Native.Nat.{ℕ, ◌+◌, ◌*◌, ◌<◌, ◌≤◌}
-use mathlib.Core.Path.{◌≡◌, refl, sym, subst, ◌∙◌}
-use mathlib.Core.Logic.{⊎_elim}
-use mathlib.Core.Bool.{Bool, true, false}
-use mathlib.Core.List.Memᴰ.{not-nil}
-use mathlib.Core.List.{List, [], ◌∷◌, Memᴰ as Mem}
-use native.Mathlib.Omega.{arith}
-use lib.ListN.{length, get_or-eq_default}
-use borrow.Author.Tests.{lt-ltb, le-ltb}
+use Rattle.std.proofs.Common.{◌≡◌, refl, sym, subst, ◌∙◌, ⊎_elim, Bool, true, false, List, [], ◌∷◌, arith, length, lt-ltb, le-ltb}
+use Rattle.std.proofs.lemmas.Bool.{cases_lt}
+use Rattle.deck.proofs.Members.{not-nil, Mem}
+use Rattle.std.proofs.Math.ListN.{get_or-eq_default}
 use Rattle.std.specs.Prelude.{Option, None, Some}
 use Rattle.deck.specs.Sheet.{Sheet}
 use Rattle.deck.specs.Assignments.{table_of}
@@ -18,7 +14,6 @@ use Rattle.deck.specs.declared.Constraint.{Constraint}
 use Rattle.meaning.specs.Meaning.{◌at◌, Assignment}
 use Rattle.meaning.specs.Making.{added, make_root}
 use Rattle.prices.specs.Square.{copied}
-use Rattle.prices.proofs.Growth.{lower}
 use Rattle.partition.specs.Parts.{Slot}
 use Rattle.partition.proofs.Candidates.{Candidate, candidate_meant}
 use Rattle.records.specs.Record.{fields_at, root_in}
@@ -122,7 +117,7 @@ module _ (g : Given) {work : List ℕ} (room : Room g work) {made latest : ℕ} 
     module _ (less : made < (sheet_of g).limit) {mid tasks : List ℕ} (B : RootBegun work mid made tasks) (N : NextTaken m (copied m table) mid (made + 1) st.rest tasks) where
       small : (a : List ℕ) → Assignment (sheet_of g).count a → (k : ℕ) → a at k < 256
       small a h k =
-          ⊎_elim (λ l. omega (arith, h.tasks k l, few_carriers)) (λ l. rw (get_or-eq_default a 0 {n = k} (omega (arith, h.as_many))) (omega arith)) (lower k (sheet_of g).count)
+          ⊎_elim (λ l. omega (arith, h.tasks k l, few_carriers)) (λ l. rw (get_or-eq_default a 0 {n = k} (omega (arith, h.as_many))) (omega arith)) (cases_lt k (sheet_of g).count)
 
       pub next_begun : (a : List ℕ) × (others : List (List ℕ)) × (st.rest ≡ a ∷ others) × Begun (sheet_of g) mid made a 0 (held_state st.opened made others)
       next_begun =

@@ -1,14 +1,9 @@
 -- A root made in the workspace: its paths, one after the other, are the least without constraints; the root is opened, and the slots
 -- hold what remains. Assumes nothing.
 use Prim.Native.Nat.{ℕ, ◌+◌, ◌-◌, ◌*◌, ◌<◌, ◌≤◌}
-use mathlib.Core.Path.{◌≡◌, refl, sym, ap, subst, ◌∙◌}
-use mathlib.Core.Logic.{◌≢◌}
-use mathlib.Core.List.{List, [], ◌∷◌, ◌++◌}
+use Rattle.std.proofs.Common.{◌≡◌, refl, sym, ap, subst, ◌∙◌, ◌≢◌, List, [], ◌∷◌, ◌++◌, arith, length, get_or, take, drop, replicate, take_at, T}
 use Rattle.std.specs.Prelude.{Option, None, Some}
-use native.Mathlib.Omega.{arith}
-use lib.ListN.{length, get_or, take, drop, replicate, get_or-append}
-use lib.Seq.{take_at}
-use lib.Dec.{T}
+use Rattle.std.proofs.Math.ListN.{get_or-append}
 use Rattle.deck.specs.Sheet.{Sheet, carrier, task}
 use Rattle.deck.specs.Paths.{least_path, finish_of}
 use Rattle.deck.specs.Assignments.{barred, entry_at, entry_of, table_of}

@@ -1,6 +1,6 @@
 -- Entries found layer by layer: the first layer that reaches a carrier's start. Assumes nothing.
 use Rattle.std.proofs.Common.{ℕ, ◌+◌, ◌≤◌, ◌<◌, ◌≡◌, ◌≢◌, refl, sym, ◌∙◌, subst, Bool, true, false, cond, List, [], ◌∷◌, length, get_or, take, set, ltb, T, Option, None, Some, ⊎_elim, arith, add-one, eq-or-lt_of_le, le_of_suc-le-suc, not-suc-le-zero, length-set, get_or-set_same, get_or-set_other, get_or-take, length-take}
-use Rattle.std.proofs.lemmas.Bool.{ltb-true, ltb-false}
+use Rattle.std.proofs.lemmas.Bool.{ltb-true, ltb-false, cases_lt}
 use Rattle.std.proofs.lemmas.Option.{none-some, same_Some}
 use Rattle.std.proofs.lemmas.List.{map-set, length-map, get_or-map, take-map}
 use Rattle.std.proofs.Math.Seq.{map-set_same}
@@ -10,7 +10,6 @@ use Rattle.deck.specs.declared.Task.{Task}
 use Rattle.sheet.proofs.Accepted.{start_free, last_goal_free}
 use Rattle.kernel.specs.Labels.{all_goals}
 use Rattle.kernel.specs.Kernel.{hind}
-use Rattle.kernel.proofs.Choice.{lt_or_ge}
 use Rattle.kernel.proofs.Table.{hind_timeless, entry_found, entry_barred}
 use Rattle.finishes.specs.Entries.{entry_for, starts_in, steps_in, Unknown, Starts, steps, Reaches, marked, Marks, Marked, Column, number_of, Whole}
 use Rattle.finishes.specs.declared.entry.Entry.{Entry}
@@ -76,7 +75,7 @@ module _ (s : List ℕ) (ok : cause s ≡ None) (i : ℕ) (j : Task) (a : i < co
         has = λ h. rw (own_steps e) f.1;
         first = λ n h r. ⊎_elim
             (λ g. let q = m.earlier n g (rw (own_steps n) at r) in let z : e ≡ q.0 = same_Some e q.0 q.1 in omega (arith, q.2))
-            (λ g. omega (arith, f.0)) (lt_or_ge n k);
+            (λ g. omega (arith, f.0)) (cases_lt n k);
       }) (omega (arith, f.0)))
 
 -- the column after its last layer

@@ -1,4 +1,5 @@
 -- When a state can finish: when a way from it does; and the words that a walk writes. Assumes nothing.
+use Rattle.std.proofs.lemmas.Bool.{cases_lt}
 use Prim.Native.Nat.{ℕ, zero, suc, ◌+◌, ◌-◌, ◌≤◌, ◌<◌, zero-le}
 use mathlib.Core.Path.{◌≡◌, refl, sym, ap, ◌∙◌, subst}
 use mathlib.Core.Logic.{⊎_elim}
@@ -23,7 +24,6 @@ use Rattle.kernel.specs.Labels.{all_goals, first_label, raised}
 use Rattle.kernel.specs.Parts.{parts_of}
 use Rattle.kernel.specs.Kernel.{hind, path_at}
 use Rattle.kernel.proofs.Both.{and_left, and_right, and_both}
-use Rattle.kernel.proofs.Choice.{lt_or_ge}
 use Rattle.kernel.proofs.OfTask.{first_label_le}
 use Rattle.kernel.proofs.Kernel.{good_back, back_good, follow_trace}
 use Rattle.kernel.proofs.Least.{hind_meets}
@@ -98,7 +98,7 @@ module _ (d : Sheet) (i : Carrier) (j : Task) (cs : List Constraint) (end : ℕ)
       → Dived d i j cs end t u k before before (Ok false)
   ends_not t u k before h l g =
       let o : end - t ≡ 0 = omega arith in
-      record { says = (rw o (⊎_elim (λ m. absurd (g ((back_zero d i j cs t u k l).test m))) (λ m. m) (lt_or_ge (all_goals d j) (k + back parts 0 t u))), refl) }
+      record { says = (rw o (⊎_elim (λ m. absurd (g ((back_zero d i j cs t u k l).test m))) (λ m. m) (cases_lt (all_goals d j) (k + back parts 0 t u))), refl) }
 
   module _ (t u k : ℕ) (on : u < area d) (l : t < end) (label : k ≤ all_goals d j) where
     steps_left : end - t ≡ suc (end - (t + 1))
@@ -112,7 +112,7 @@ module _ (d : Sheet) (i : Carrier) (j : Task) (cs : List Constraint) (end : ℕ)
     unfolding goes
     goes_nowhere h = rw steps_left (⊎_elim
         (λ m. let r = back_good d i j cs (end - (t + 1)) t u k label m in absurd (none_by d u on goes h r.0 r.1 r.2))
-        (λ m. m) (lt_or_ge (all_goals d j) (k + back parts (suc (end - (t + 1))) t u)))
+        (λ m. m) (cases_lt (all_goals d j) (k + back parts (suc (end - (t + 1))) t u)))
 
     -- by the way x, the first
     pub goes_on : (x : ℕ) → x < 5 → ((y : ℕ) → y < x → ¬ T (goes_by d i j cs end t u k y)) → (before after : List ℕ) (z : ℕ) → z ≡ u → end < length before
@@ -197,14 +197,14 @@ module _ (d : Sheet) (i : Carrier) (j : Task) (cs : List Constraint) (end : ℕ)
       at : (p : ℕ) → p < length three → get_or three p 0 ≡ get_or (overwrite whole before) p 0
       at p b = ⊎_elim
           (λ q.
-          ⊎_elim (λ r. early p r) (λ r. h.inside p (omega arith) (omega arith) ∙ eg ∙ sym (late p (omega arith) q)) (lt_or_ge p (end + 1))
+          ⊎_elim (λ r. early p r) (λ r. h.inside p (omega arith) (omega arith) ∙ eg ∙ sym (late p (omega arith) q)) (cases_lt p (end + 1))
           ∙ sym (get_or-append whole (drop (length whole) before) 0 p (omega (arith, long))))
           (λ q.
           let y : p ≡ length whole + (p - length whole) = omega (arith, long) in
           h.above p (omega arith) ∙ f.above p (omega arith)
           ∙ subst (λ (o : ℕ). get_or before o 0 ≡ get_or (overwrite whole before) o 0) (sym y)
           (sym (get_or-append-add whole (drop (length whole) before) (p - length whole) 0 ∙ get_or-drop (length whole) before (p - length whole) 0)))
-          (lt_or_ge p (suc d.horizon))
+          (cases_lt p (suc d.horizon))
 
   -- what the walk from the start says of the backward layer there
   abbrev left : ℕ → ℕ → ℕ

@@ -1,12 +1,12 @@
 -- The columns after the ways over one row, column by column, and the nearest of them. Assumes nothing.
 use Rattle.std.proofs.Common.{ℕ, ◌+◌, ◌-◌, ◌≤◌, ◌<◌, ◌≡◌, refl, sym, ap, subst, ◌∙◌, ◌⊎◌, inl, inr, ⊎_elim, Bool, true, false, cond, List, not-suc-le-zero, eq-or-lt_of_le, le_of_suc-le-suc, le_refl, add-one, arith, length, get_or, set, length-set, get_or-set_same, get_or-set_other, ltb, lt-ltb, le-ltb, ltb-true, ltb-false}
+use Rattle.std.proofs.lemmas.Bool.{cases_lt}
 use mathlib.Core.Bool.{false≢true}
 use Rattle.std.proofs.Math.ListN.{get_or-map}
 use Rattle.std.proofs.lemmas.List.{map-set, length-map}
 use Rattle.std.proofs.Math.Seq.{map-set_same}
 use Rattle.deck.specs.Sheet.{task}
 use Rattle.meaning.specs.Meaning.{◌at◌}
-use Rattle.prices.proofs.Growth.{lower}
 use Rattle.hungarian.specs.declared.Way.{Way}
 use Rattle.hungarian.specs.declared.Column.{Column}
 use Rattle.hungarian.specs.declared.Edge.{Edge}
@@ -152,7 +152,7 @@ module _ (m : ℕ) (w u v : List ℕ) (columns : List Bool) (total i : ℕ) (nea
       (λ g. let e = R.each k l ∙ nearer_less (column_at (marked columns k) (near at k) (from at k)) total s i h g in
       inr (ap (λ (x : Way). x.near) e, ap (λ (x : Way). x.from.0) e, g))
       (λ g. let e = R.each k l ∙ nearer_kept (column_at (marked columns k) (near at k) (from at k)) total s i h g in
-      inl (ap (λ (x : Way). x.near) e, ap (λ (x : Way). x.from.0) e, g)) (lower s (near at k - total))
+      inl (ap (λ (x : Way). x.near) e, ap (λ (x : Way). x.from.0) e, g)) (cases_lt s (near at k - total))
     where
       s : ℕ
       s = slack_of w u v i k

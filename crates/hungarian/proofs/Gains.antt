@@ -1,11 +1,11 @@
 -- The rows of the tree, the ways to them, and what the prices rise by. Assumes nothing.
 use Rattle.std.proofs.Common.{Option, None, Some, ℕ, zero, suc, ◌+◌, ◌-◌, ◌≤◌, ◌<◌, ◌≡◌, refl, sym, ap, ◌∙◌, ◌⊎◌, inl, inr, ⊎_elim, ◌≢◌, Bool, true, false, List, [], ◌∷◌, not-suc-le-zero, eq-or-lt_of_le, le_of_suc-le-suc, add-one, arith, length, get_or, set, length-set, get_or-set_same, get_or-set_other, eq-eqb, ne_eqb, lt-ltb, le-ltb}
+use Rattle.std.proofs.lemmas.Bool.{cases_lt}
 use mathlib.Core.Bool.{false≢true}
 use native.Mathlib.Decide.{ℕ_discrete}
 use Rattle.std.proofs.lemmas.List.{get_or-map}
 use Rattle.meaning.specs.Meaning.{◌at◌}
 use Rattle.prices.specs.Matching.{Put}
-use Rattle.prices.proofs.Growth.{lower}
 use Rattle.deck.specs.declared.Carrier.{Carrier}
 use Rattle.deck.specs.declared.Task.{Task}
 use Rattle.hungarian.specs.declared.Column.{Column}
@@ -49,7 +49,7 @@ module _ (m r : ℕ) (task : List ℕ) (columns : List Bool) where
     where
       go : Dec (x ≡ r) → (x ≡ r) ⊎ ((task at x < m) × (marked columns (task at x) ≡ true))
       go (yes e) = inl e
-      go (no e) = ⊎_elim (λ l. inr (l, sym (tree_column x e l) ∙ h)) (λ l. absurd (false≢true (sym (tree_none x e l) ∙ h))) (lower (task at x) m)
+      go (no e) = ⊎_elim (λ l. inr (l, sym (tree_column x e l) ∙ h)) (λ l. absurd (false≢true (sym (tree_none x e l) ∙ h))) (cases_lt (task at x) m)
 
 pub way_root : (r : ℕ) (task near : List ℕ) → way_to r task near r ≡ 0
 unfolding way_to

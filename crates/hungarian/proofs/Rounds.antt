@@ -1,13 +1,14 @@
 -- A round over arrays: the tree of a row begins, grows by the nearest column, and reaches a free one; the way back goes a step, and
 -- ends. Assumes nothing.
 use Rattle.std.proofs.Common.{Option, None, Some, get_or, ℕ, suc, ◌+◌, ◌-◌, ◌≤◌, ◌<◌, ◌^◌, zero-le, ◌≡◌, refl, sym, ap, subst, ◌∙◌, ◌⊎◌, inl, inr, ⊎_elim, ◌≢◌, Bool, true, false, cond, List, not-suc-le-zero, le_refl, arith, length, set, replicate, length-set, get_or-set_same, get_or-set_other, eqb, eq-eqb, ne_eqb}
+use Rattle.std.proofs.lemmas.Bool.{cases_lt, cases_Bool}
 use mathlib.Core.Bool.{false≢true}
 use native.Mathlib.Decide.{ℕ_discrete}
-use lib.ListN.{get_or-replicate, get_or-eq_default}
+use lib.ListN.{get_or-replicate}
 use Rattle.meaning.specs.Meaning.{◌at◌}
 use Rattle.prices.specs.Matching.{Put, Raised, LeastSlack, Matches, Tree, Bounded}
 use Rattle.prices.specs.Square.{cell}
-use Rattle.prices.proofs.Growth.{lower, marked_or_not, same_prices, same_from, bounded, some_outside, rows_fit, columns_fit, raised_matching, joined, last_tree, turn_begins, turn_ends, turn_next}
+use Rattle.prices.proofs.Growth.{same_prices, same_from, bounded, some_outside, rows_fit, columns_fit, raised_matching, joined, last_tree, turn_begins, turn_ends, turn_next}
 use Rattle.std.proofs.lemmas.List.{map-set, length-map}
 use Rattle.std.proofs.lemmas.Option.{none-some}
 use Rattle.meaning.proofs.Lists.{get_or_same}
@@ -21,7 +22,7 @@ use Rattle.hungarian.proofs.Columns.{blank, from_at, column_kept, column_moved}
 use Rattle.hungarian.proofs.Gains.{task_at, put_set, unmarked_set, tree_root, tree_column, tree_none, tree_row, way_root, way_column, gain_in, gain_out}
 
 none_marked : (k : ℕ) → marked (replicate 12 false) k ≡ false
-none_marked k = ⊎_elim (λ l. get_or-replicate 12 k false false l) (λ l. get_or-eq_default (replicate 12 false) false l) (lower k 12)
+none_marked k = get_or_same false 12 k
 
 put_at : (ℕ → ℕ) → ℕ → ℕ → ℕ → ℕ
 put_at f k x i = cond (eqb i k) x (f i)
@@ -234,12 +235,12 @@ module _ (m : ℕ) (w : List ℕ) (r : ℕ) (small : m ≤ 12) (low : r < m) (li
     rows_in_range : (x : ℕ) → x < m → row_price m r u task columns near' e.near x < 2 ^ 64
     rows_in_range x lx = ⊎_elim
         (λ h. omega (arith, in_raised x h, rows_fit m (cell w) r U Y (◌at◌ task) (◌at◌ carrier) M low rows (marked columns) (◌at◌ from') G.order G.n T' (from' at j) j d least_slack 9223372036854775807 light x lx h))
-        (λ h. omega (arith, out_raised x h, out_price x h, (S.bounded 9223372036854775807 light x lx).0)) (marked_or_not (rows x))
+        (λ h. omega (arith, out_raised x h, out_price x h, (S.bounded 9223372036854775807 light x lx).0)) (cases_Bool (rows x))
 
     columns_in_range : (y : ℕ) → y < m → column_price v columns near' e.near y < 2 ^ 64
     columns_in_range y ly = ⊎_elim
         (λ h. omega (arith, in_column_raised y ly h, columns_fit m (cell w) r U Y (◌at◌ task) (◌at◌ carrier) M low rows (marked columns) (◌at◌ from') G.order G.n T' (from' at j) j d least_slack 9223372036854775807 light y ly h))
-        (λ h. omega (arith, out_column_raised y h, out_column y h, (S.bounded 9223372036854775807 light y ly).1)) (marked_or_not (marked columns y))
+        (λ h. omega (arith, out_column_raised y h, out_column y h, (S.bounded 9223372036854775807 light y ly).1)) (cases_Bool (marked columns y))
 
     in_columns : j < length columns
     in_columns = omega (arith, next_column.0, G.sizes.2)
@@ -313,7 +314,7 @@ module _ (m : ℕ) (w : List ℕ) (r : ℕ) (small : m ≤ 12) (low : r < m) (li
           go (yes q) = rw q (tree_root m r task columns' ∙ sym (tree_root m r task columns))
           go (no q) = ⊎_elim
               (λ lt. tree_column m r task columns' x q lt ∙ marked_other (task at x) (other_task x lx n lt) ∙ sym (tree_column m r task columns x q lt))
-              (λ ge. tree_none m r task columns' x q ge ∙ sym (tree_none m r task columns x q ge)) (lower (task at x) m)
+              (λ ge. tree_none m r task columns' x q ge ∙ sym (tree_none m r task columns x q ge)) (cases_lt (task at x) m)
 
       -- the row of j was outside the tree
       out_row : rows (carrier at j) ≡ false

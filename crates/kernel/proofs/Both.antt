@@ -1,5 +1,5 @@
 -- Two tests that pass together. Assumes nothing.
-use Rattle.std.proofs.Common.{◌≡◌, refl, Bool, true, false, ◌&&◌, T}
+use Rattle.std.proofs.Common.{Bool, true, false, ◌&&◌, T}
 
 pub and_left : (a b : Bool) → T (a && b) → T a
 and_left true b t = tt
@@ -12,9 +12,3 @@ and_right false b t = absurd t
 pub and_both : (a b : Bool) → T a → T b → T (a && b)
 and_both true b s t = t
 and_both false b s t = absurd s
-
-pub and_turned : (a b : Bool) → (a && b) ≡ (b && a)
-and_turned true true = refl
-and_turned true false = refl
-and_turned false true = refl
-and_turned false false = refl

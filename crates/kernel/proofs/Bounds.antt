@@ -1,6 +1,6 @@
 -- A layer's numbers are at most one more than the label of all goals. Assumes nothing.
 use Rattle.std.proofs.Common.{ℕ, zero, suc, ◌≤◌, zero-le, max, Bool, true, false, cond, ◌&&◌, List, [], ◌∷◌, reverse, arith, length, eqb}
-use lib.ListN.{length-reverse}
+use Rattle.std.proofs.lemmas.List.{length-reverse}
 use Rattle.deck.specs.Sheet.{Sheet, start_of, goals_of, last_goal}
 use Rattle.deck.specs.declared.Carrier.{Carrier}
 use Rattle.deck.specs.declared.Task.{Task}

@@ -1,19 +1,9 @@
 -- The greatest over a list, and the first that passes a test. Assumes nothing.
-use Rattle.std.proofs.Common.{ℕ, zero, suc, ◌≤◌, ◌<◌, zero-le, max, ◌≡◌, refl, ap, ◌∙◌, subst, ◌⊎◌, inl, inr, Bool, true, false, cond, List, [], ◌∷◌, arith, T, ltb, ltb-true, ltb-false}
-use mathlib.Core.List.Memᴰ.{cases_cons}
-use mathlib.Core.List.Memᴰ.{head as here}
-use mathlib.Core.List.Memᴰ.{not-nil}
-use mathlib.Core.List.Memᴰ.{tail as there}
-use mathlib.Core.List.{Memᴰ as Mem}
+use Rattle.std.proofs.Common.{ℕ, zero, suc, ◌≤◌, ◌<◌, zero-le, max, ◌≡◌, refl, ap, ◌∙◌, subst, ◌⊎◌, inl, inr, Bool, true, false, cond, List, [], ◌∷◌, arith, T}
+use Rattle.std.proofs.lemmas.Bool.{cases_lt}
+use Rattle.deck.proofs.Members.{Mem, here, there, not-nil, cases_cons}
 use Rattle.meaning.specs.Sorted.{Sorted}
 use Rattle.kernel.specs.Layers.{best, first_of, lift}
-
-pub lt_or_ge : (a b : ℕ) → (a < b) ⊎ (b ≤ a)
-lt_or_ge a b = go (ltb a b) refl
-  where
-    go : (c : Bool) → ltb a b ≡ c → (a < b) ⊎ (b ≤ a)
-    go true e = inl (ltb-true a b e)
-    go false e = inr (ltb-false a b e)
 
 -- the greatest over a list
 pub best_some : (ok : ℕ → Bool) (f : ℕ → ℕ) (l : List ℕ) (n : ℕ) → n < best ok f l → (x : ℕ) × Mem x l × T (ok x) × (n < f x)
@@ -23,7 +13,7 @@ best_some ok f (y ∷ l) n h = go (ok y) refl h (λ k. best_some ok f l n k)
     go : (b : Bool) → ok y ≡ b → n < cond b (max (f y) (best ok f l)) (best ok f l) → (n < best ok f l → (x : ℕ) × Mem x l × T (ok x) × (n < f x))
         → (x : ℕ) × Mem x (y ∷ l) × T (ok x) × (n < f x)
     go false e h i = let r = i h in (r.0, there r.1, r.2, r.3)
-    go true e h i = pick (lt_or_ge n (f y))
+    go true e h i = pick (cases_lt n (f y))
       where
         pick : (n < f y) ⊎ (f y ≤ n) → (x : ℕ) × Mem x (y ∷ l) × T (ok x) × (n < f x)
         pick (inl k) = (y, here refl, rw e tt, k)
@@ -67,7 +57,7 @@ first_least ok (y ∷ l) {x} s m t = go (ok y) refl (cases_cons m) (λ k. first_
 -- a number that is above 0 only by an element, and is at least each, is the greatest
 pub best_is : (ok : ℕ → Bool) (f : ℕ → ℕ) (l : List ℕ) (b : ℕ) → ((n : ℕ) → n < b → (x : ℕ) × Mem x l × T (ok x) × (n < f x)) → ((x : ℕ) → Mem x l → T (ok x) → f x ≤ b)
     → best ok f l ≡ b
-best_is ok f l b h g = go (lt_or_ge (best ok f l) b) (lt_or_ge b (best ok f l))
+best_is ok f l b h g = go (cases_lt (best ok f l) b) (cases_lt b (best ok f l))
   where
     go : (best ok f l < b) ⊎ (b ≤ best ok f l) → (b < best ok f l) ⊎ (best ok f l ≤ b) → best ok f l ≡ b
     go (inl x) y = let r = h (best ok f l) x in absurd (omega (arith, r.3, best_all ok f r.1 r.2))

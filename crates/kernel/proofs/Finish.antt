@@ -1,7 +1,7 @@
 -- Where staying on the last goal raises no label: the finish of a walk is the least time from which it stays there. Assumes nothing.
 use Rattle.std.proofs.Common.{ℕ, zero, suc, ◌+◌, ◌-◌, ◌≤◌, ◌<◌, zero-le, ◌≡◌, refl, sym, ap, ◌∙◌, subst, ◌⊎◌, inl, inr, ⊎_elim, Bool, true, false, cond, List, [], ◌∷◌, Option, None, Some, eq-or-lt_of_le, arith, length, replicate, T, eqb, eqb→eq}
-use lib.ListN.{length-replicate}
-use lib.Dec.{eqb_refl}
+use Rattle.std.proofs.lemmas.List.{length-replicate}
+use Rattle.std.proofs.Math.Dec.{eqb_refl}
 use Rattle.deck.specs.Lists.{all}
 use Rattle.deck.specs.Paths.{finish}
 use Rattle.meaning.specs.Meaning.{Before}

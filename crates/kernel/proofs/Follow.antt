@@ -1,6 +1,6 @@
 -- Along the trace each step is allowed and keeps the time. Assumes nothing.
 use Rattle.std.proofs.Common.{ℕ, suc, ◌+◌, ◌-◌, ◌≤◌, ◌≡◌, sym, subst, List, arith, T, ltb→lt}
-use mathlib.Core.List.{Memᴰ as Mem}
+use Rattle.deck.proofs.Members.{Mem}
 use Rattle.deck.specs.Sheet.{Sheet, free, start_of, last_goal}
 use Rattle.deck.specs.declared.Carrier.{Carrier}
 use Rattle.deck.specs.declared.Task.{Task}

@@ -1,6 +1,7 @@
 -- The one function on layers, run forward and backward, gives the least path. Assumes nothing.
 use Rattle.std.proofs.Common.{ℕ, zero, suc, ◌+◌, ◌-◌, ◌≤◌, ◌<◌, zero-le, max, ◌≡◌, refl, sym, ap, ◌∙◌, subst, ◌↔◌, ⊎_elim, Bool, true, false, cond, ◌&&◌, List, [], ◌∷◌, reverse, eq-or-lt_of_le, le_refl, arith, length, T, eqb, ltb, ltb→lt, lt→ltb, eqb-true}
-use mathlib.Core.List.{Memᴰ as Mem}
+use Rattle.std.proofs.lemmas.Bool.{cases_lt}
+use Rattle.deck.proofs.Members.{Mem}
 use Rattle.deck.specs.Sheet.{Sheet, start_of, goals_of, last_goal}
 use Rattle.deck.specs.declared.Carrier.{Carrier}
 use Rattle.deck.specs.declared.Task.{Task}
@@ -14,7 +15,7 @@ use Rattle.kernel.specs.Kernel.{fore, hind, onward, follow}
 use Rattle.kernel.proofs.Both.{and_left, and_right, and_both}
 use Rattle.kernel.proofs.Labels.{up_mono}
 use Rattle.kernel.proofs.OfTask.{raised_le, before_step, after_step}
-use Rattle.kernel.proofs.Choice.{best_some, best_all, best_lift, lt_or_ge}
+use Rattle.kernel.proofs.Choice.{best_some, best_all, best_lift}
 use Rattle.kernel.proofs.Reverse.{backward_as_forward}
 
 pub best_same : (ok : ℕ → Bool) (f g : ℕ → ℕ) → ((x : ℕ) → f x ≡ g x) → (l : List ℕ) → best ok f l ≡ best ok g l
@@ -104,7 +105,7 @@ module _ (d : Sheet) (i : Carrier) (j : Task) (cs : List Constraint) where
       go false = zero-le
   back_le (suc n) t u = ⊎_elim
       (λ h. let r = best_some (λ v. pass w t u v) (λ v. lowered v gs (back w n (suc t) v)) (w.succs u) (suc (length gs)) h in absurd (omega (arith, r.3)))
-      (λ h. h) (lt_or_ge (suc (length gs)) (back w (suc n) t u))
+      (λ h. h) (cases_lt (suc (length gs)) (back w (suc n) t u))
 
   -- a step by which the task is finished n steps later: so it is from where the step goes
   pub good_back : (n t u k v : ℕ) → k ≤ all_goals d j → Mem v (w.succs u) → T (good w n t u k v) → all_goals d j < k + back w (suc n) t u

@@ -1,9 +1,8 @@
 -- The least time that the layers give, and the path traced from it, are the finish and the places of the least path.
 -- Assumes nothing.
 use Rattle.std.proofs.Common.{ℕ, zero, suc, ◌+◌, ◌-◌, ◌≤◌, ◌<◌, zero-le, ◌≡◌, refl, sym, subst, ◌↔◌, inl, ⊎_elim, Bool, true, false, cond, ◌&&◌, List, [], ◌∷◌, map, Option, None, Some, eq-or-lt_of_le, le_trans, arith, T, eqb, leb, leb→le, le→leb, ltb→lt, lt→ltb, leb-true, leb-false}
-use mathlib.Core.List.Memᴰ.{head as here}
-use mathlib.Core.List.Memᴰ.{tail as there}
-use mathlib.Core.List.{Memᴰ as Mem}
+use Rattle.std.proofs.lemmas.Bool.{cases_lt}
+use Rattle.deck.proofs.Members.{Mem, here, there, map_mem}
 use Rattle.deck.specs.Lists.{greatest}
 use Rattle.deck.specs.Sheet.{Sheet, area, free, start_of, goals_of, last_goal}
 use Rattle.deck.specs.Paths.{least_path, finish_of}
@@ -13,7 +12,7 @@ use Rattle.deck.specs.declared.Constraint.{Constraint}
 use Rattle.deck.specs.declared.Constraint.TheVariants.{Place, Move}
 use Rattle.meaning.specs.Meaning.{Free, PathUnder}
 use Rattle.meaning.proofs.Tests.{Says, says_eqb, says_and, is_true}
-use Rattle.meaning.proofs.Lists.{mem_map, map_mem}
+use Rattle.meaning.proofs.Lists.{mem_map}
 use Rattle.meaning.proofs.Paths.{free_meant}
 use Rattle.meaning.proofs.LeastPath.{LeastMeant, least_path_meant}
 use Rattle.kernel.specs.Layers.{Parts, pass, back, rest, trace}
@@ -22,7 +21,6 @@ use Rattle.kernel.specs.Labels.{all_goals, first_label}
 use Rattle.kernel.specs.Parts.{free_move, stands, step_free, parts_of, stay_after, stay_from, rest_from}
 use Rattle.kernel.specs.Kernel.{fore, hind, path_at, meets_at, LeastTime, NoEarlier}
 use Rattle.kernel.proofs.Both.{and_left, and_right, and_both}
-use Rattle.kernel.proofs.Choice.{lt_or_ge}
 use Rattle.kernel.proofs.Labels.{lowered_iff}
 use Rattle.kernel.proofs.OfTask.{first_label_le}
 use Rattle.kernel.proofs.Passes.{Laws}
@@ -137,7 +135,7 @@ module _ (d : Sheet) (i : Carrier) (j : Task) (cs : List Constraint) (start : T 
 
       within : (c : Constraint) → Mem c cs → InTime d.horizon c → stay_after i (last_goal d j) c ≤ n
       within (Place b x u) k l = cond_le (eqb b.0 i.0 && eqb x (last_goal d j)) (suc u) n
-          (λ t. let f = (says_and says_eqb says_eqb).fact t in ⊎_elim (λ z. z) (λ z. absurd (later f.0 f.1 z)) (lt_or_ge u n))
+          (λ t. let f = (says_and says_eqb says_eqb).fact t in ⊎_elim (λ z. z) (λ z. absurd (later f.0 f.1 z)) (cases_lt u n))
         where
           stands : n ≤ u → T (w.stand u (last_goal d j))
           stands z = ⊎_elim (λ e. subst (λ (v : ℕ). T (w.stand v (last_goal d j))) e s)
@@ -146,7 +144,7 @@ module _ (d : Sheet) (i : Carrier) (j : Task) (cs : List Constraint) (start : T 
           later : b.0 ≡ i.0 → x ≡ last_goal d j → n ≤ u → ⊥
           later e f z = (stands_meant d i cs u (last_goal d j)).fact (stands z) (Place b x u) k e refl (sym f)
       within (Move b x y u) k l = cond_le (eqb b.0 i.0 && eqb x (last_goal d j) && eqb y (last_goal d j)) (suc u) n
-          (λ t. let f = (says_and (says_and says_eqb says_eqb) says_eqb).fact t in ⊎_elim (λ z. z) (λ z. absurd (later f.0.0 f.0.1 f.1 z)) (lt_or_ge u n))
+          (λ t. let f = (says_and (says_and says_eqb says_eqb) says_eqb).fact t in ⊎_elim (λ z. z) (λ z. absurd (later f.0.0 f.0.1 f.1 z)) (cases_lt u n))
         where
           later : b.0 ≡ i.0 → x ≡ last_goal d j → y ≡ last_goal d j → n ≤ u → ⊥
           later e f q z =

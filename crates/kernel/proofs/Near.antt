@@ -1,11 +1,7 @@
 -- The places around a place are those to which, and from which, a step may go; they stand rising. Assumes nothing.
 use Rattle.std.proofs.Common.{ℕ, zero, suc, ◌+◌, ◌-◌, ◌*◌, ◌/◌, ◌%◌, ◌≤◌, ◌<◌, ◌≡◌, refl, sym, ap, ◌∙◌, ◌⊎◌, inl, inr, ⊎_elim, Bool, true, false, List, [], ◌∷◌, mod-lt, div-add-mod', suc-mul, zero-mul, mul_comm, mul-le-mul_right, div-lt_iff_lt-mul, mod-eq_of_lt, arith, T, leb→le, le→leb, ltb→lt, lt→ltb}
-use mathlib.Core.List.Memᴰ.{cases_cons}
-use mathlib.Core.List.Memᴰ.{head as here}
-use mathlib.Core.List.Memᴰ.{not-nil}
-use mathlib.Core.List.Memᴰ.{tail as there}
-use mathlib.Core.List.{Memᴰ as Mem}
-use native.Mathlib.Nat.{add-div_right, add-mod_right, mul-add-div_right, mul-add-mod_self_right, div-eq_of_lt}
+use Rattle.deck.proofs.Members.{Mem, here, there, not-nil, cases_cons}
+use Rattle.std.proofs.Math.Nat.{add-div_right, add-mod_right, mul-add-div_right, mul-add-mod_self_right, div-eq_of_lt}
 use Rattle.deck.specs.Sheet.{Sheet, area}
 use Rattle.meaning.specs.Meaning.{OneApart, NextTo}
 use Rattle.meaning.specs.Sorted.{Sorted}

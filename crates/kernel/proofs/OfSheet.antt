@@ -1,6 +1,6 @@
 -- The two passes with the parts of a sheet answer the least path of the definitions. Assumes nothing.
 use Rattle.std.proofs.Common.{ℕ, zero, suc, ◌+◌, ◌≤◌, ◌<◌, zero-le, ◌≡◌, refl, sym, ap, ◌∙◌, subst, ◌⊎◌, ⊎_elim, ◌≢◌, ◌&&◌, not, List, [], ◌∷◌, Option, None, Some, not-suc-le-zero, le_refl, arith, length, drop, drop_of_length-le, T}
-use mathlib.Core.List.{Memᴰ as Mem}
+use Rattle.deck.proofs.Members.{Mem}
 use Rattle.deck.specs.Sheet.{Sheet, free, start_of, goals_of, last_goal}
 use Rattle.deck.specs.Paths.{left, least_path}
 use Rattle.deck.specs.declared.Carrier.{Carrier}

@@ -1,7 +1,7 @@
 -- The two passes mean what they should. Assumes nothing.
 use Rattle.std.proofs.Common.{ℕ, zero, suc, ◌+◌, ◌-◌, ◌≤◌, ◌<◌, ◌≡◌, refl, Bool, true, false, cond, ◌&&◌, List, [], ◌∷◌, not-suc-le-zero, arith, T, eqb, eqb→eq}
-use mathlib.Core.List.{Memᴰ as Mem}
-use lib.Dec.{eqb_refl}
+use Rattle.deck.proofs.Members.{Mem}
+use Rattle.std.proofs.Math.Dec.{eqb_refl}
 use Rattle.kernel.proofs.Both.{and_left}
 use Rattle.meaning.specs.Sorted.{Sorted}
 use Rattle.kernel.specs.Layers.{Parts, pass, lift, front, back}

@@ -1,11 +1,10 @@
 -- Backward as forward: the labels counted backward rise as labels do, with the goals reversed. Assumes nothing.
 use Rattle.std.proofs.Common.{ℕ, zero, suc, ◌-◌, ◌≤◌, zero-le, ◌≡◌, refl, sym, ap, ◌∙◌, subst, ⊎_elim, Bool, true, false, cond, ◌&&◌, List, [], ◌∷◌, ◌++◌, reverse, le_refl, arith, length, eqb, eq-eqb, ne_eqb}
-use mathlib.Core.List.{reverse-cons}
-use lib.ListN.{length-reverse}
-use lib.Dec.{eqb-suc-suc, eqb-zero-suc}
+use Rattle.std.proofs.lemmas.Bool.{cases_lt}
+use Rattle.std.proofs.lemmas.List.{length-reverse, reverse-append}
+use Rattle.std.proofs.Math.Dec.{eqb-suc-suc, eqb-zero-suc}
 use Rattle.kernel.specs.Layers.{lift}
 use Rattle.kernel.specs.Goals.{up, fall, down, lowered}
-use Rattle.kernel.proofs.Choice.{lt_or_ge}
 use Rattle.kernel.proofs.Labels.{up_ge, up_le, down_iff}
 
 -- The step that raises a label forward is, on the goals reversed, the step that counts backward
@@ -60,13 +59,13 @@ up_reverse x (g ∷ gs) (suc m) h =
     let a : up x (reverse gs ++ g ∷ []) k ≡ bump (eqb x g) (length gs) (up x (reverse gs) k)
     = rw (length-reverse gs) at (up_end x g (reverse gs) k (omega (arith, length-reverse gs))) in
     subst (λ (y : ℕ). up x (reverse (g ∷ gs)) y ≡ suc (length gs) - fall (eqb x g) (down x gs m)) (sym e)
-    (subst (λ (l : List ℕ). up x l k ≡ suc (length gs) - fall (eqb x g) (down x gs m)) (sym (reverse-cons g gs))
+    (subst (λ (l : List ℕ). up x l k ≡ suc (length gs) - fall (eqb x g) (down x gs m)) (sym (reverse-append (g ∷ []) gs))
     (a ∙ ap (bump (eqb x g) (length gs)) i ∙ bump_fall (eqb x g) (length gs) (down x gs m) (omega (arith, down_le x gs m))))
 
 pub backward_as_forward : (x : ℕ) (gs : List ℕ) (b : ℕ) → b ≤ suc (length gs) → lowered x gs b ≡ lift (up x (reverse gs)) b
 backward_as_forward x gs zero h =
     let i = (down_iff x gs (suc (length gs) - 0) (length gs)).0 in
-    ⊎_elim (λ g. absurd (omega (arith, i (omega arith), up_le x gs (length gs) (le_refl (length gs))))) (λ g. omega arith) (lt_or_ge (down x gs (suc (length gs) - 0)) (suc (length gs)))
+    ⊎_elim (λ g. absurd (omega (arith, i (omega arith), up_le x gs (length gs) (le_refl (length gs))))) (λ g. omega arith) (cases_lt (down x gs (suc (length gs) - 0)) (suc (length gs)))
 backward_as_forward x gs (suc b) h =
     let m : ℕ = length gs - b in
     let e : suc (length gs) - suc b ≡ m = omega arith in

@@ -1,8 +1,7 @@
 -- Without constraints the backward layers rest on neither the time nor the carrier, so that one pass for each task gives its
 -- column of the table. Assumes nothing.
 use Rattle.std.proofs.Common.{ℕ, zero, suc, ◌+◌, ◌-◌, ◌≤◌, ◌<◌, ◌≡◌, refl, ap, true, ◌&&◌, [], reverse, arith, T}
-use mathlib.Core.List.Memᴰ.{not-nil}
-use mathlib.Core.List.{Memᴰ as Mem}
+use Rattle.deck.proofs.Members.{Mem, not-nil}
 use Rattle.deck.specs.Sheet.{Sheet, free, start_of, goals_of, last_goal}
 use Rattle.deck.specs.Paths.{least_path}
 use Rattle.deck.specs.Assignments.{barred, entry_of}

@@ -1,22 +1,15 @@
 -- From what the parts of a step ensure to what the step does. Assumes nothing.
 use Prim.Native.Nat.{ℕ, ◌+◌, ◌-◌, ◌*◌, ◌≤◌, ◌<◌}
-use mathlib.Core.Path.{◌≡◌, refl, sym, ap, ◌∙◌, subst}
-use mathlib.Core.Logic.{⊎_elim, ◌≢◌}
-use mathlib.Core.Bool.{Bool, true, false, cond}
-use mathlib.Core.List.{List, []}
-use native.Mathlib.Nat.{le_trans, not-suc-le-zero}
-use native.Mathlib.Omega.{arith}
-use lib.ListN.{length, get_or, set, replicate, length-set, length-replicate, get_or-replicate, get_or-eq_default}
-use lib.Seq.{get_or-set_same, get_or-set_other}
-use lib.Dec.{T, eqb}
-use borrow.Author.Tests.{eq-eqb, ne_eqb}
-use native.Mathlib.Decide.{ℕ_discrete}
+use Rattle.std.proofs.Common.{◌≡◌, refl, sym, ap, ◌∙◌, subst, ⊎_elim, ◌≢◌, Bool, true, false, cond, List, [], le_trans, not-suc-le-zero, arith, length, get_or, set, replicate, length-set, get_or-set_same, get_or-set_other, T, eqb, eq-eqb, ne_eqb}
+use Rattle.std.proofs.lemmas.Bool.{cases_lt}
+use Rattle.std.proofs.lemmas.List.{length-replicate, get_or-replicate}
+use Rattle.std.proofs.Math.ListN.{get_or-eq_default}
+use Rattle.std.proofs.Math.Decide.{ℕ_discrete}
 use Rattle.deck.specs.Sheet.{Sheet, area, carrier}
 use Rattle.deck.specs.Calls.{constraints_of}
 use Rattle.kernel.specs.Layers.{lift}
 use Rattle.kernel.specs.Goals.{up}
 use Rattle.kernel.specs.Parts.{stands, free_move}
-use Rattle.kernel.proofs.Choice.{lt_or_ge}
 use Rattle.kernel.proofs.OfSheet.{stands_is}
 use Rattle.bars.specs.Padded.{pad_of}
 use Rattle.bars.specs.declared.Way.{Way}
@@ -201,7 +194,7 @@ all_seeded w rs i on goals n p {one} {two} {after} w1 small made c r = record {
     lift_if false g y = refl
 
     zeros : (q : ℕ) → get_or {A = ℕ} (replicate 1156 0) q 0 ≡ 0
-    zeros q = ⊎_elim (λ h. get_or-replicate {A = ℕ} 1156 q 0 0 h) (λ h. get_or-eq_default (replicate {A = ℕ} 1156 0) 0 {n = q} (omega (arith, length-replicate {A = ℕ} 1156 0))) (lt_or_ge q 1156)
+    zeros q = ⊎_elim (λ h. get_or-replicate {A = ℕ} 1156 q 0 0 h) (λ h. get_or-eq_default (replicate {A = ℕ} 1156 0) 0 {n = q} (omega (arith, length-replicate {A = ℕ} 1156 0))) (cases_lt q 1156)
 
     other : (q : ℕ) → (q ≡ p → ⊥) → get_or one q 0 ≡ 0
     other q ne = rw made (get_or-set_other (replicate 1156 0) p q 1 0 ne ∙ zeros q)

@@ -1,4 +1,5 @@
 -- Raising a layer goal by goal raises each label as far as its place raises it. Assumes nothing.
+use Rattle.std.proofs.lemmas.Bool.{cases_lt}
 use Prim.Native.Nat.{ℕ, zero, suc, ◌≤◌, ◌<◌}
 use mathlib.Core.Path.{◌≡◌, refl, sym, ap, ◌∙◌}
 use mathlib.Core.Logic.{⊎_elim}
@@ -12,7 +13,6 @@ use borrow.Author.Tests.{ne_eqb, eqb-true}
 use Rattle.meaning.proofs.Tests.{says_eqb, same_test}
 use Rattle.kernel.specs.Layers.{lift}
 use Rattle.kernel.specs.Goals.{up}
-use Rattle.kernel.proofs.Choice.{lt_or_ge}
 use Rattle.kernel.proofs.Reverse.{bump, up_end}
 use Rattle.bars.specs.Padded.{pad_of}
 use Rattle.bars.proofs.Grid.{pad_inj}
@@ -32,7 +32,7 @@ length_end (x ∷ l) g = ap suc (length_end l g)
 up_last : (x g : ℕ) (l : List ℕ) (k : ℕ) → up x (l ++ g ∷ []) k ≡ bump (eqb x g) (length l) (up x l k)
 up_last x g l k = ⊎_elim
     (λ h. up_past x (l ++ g ∷ []) k (omega (arith, length_end l g)) ∙ rw (up_past x l k (omega arith)) (stays (eqb x g) (ne_eqb k (length l) (λ e. omega arith))))
-    (λ h. up_end x g l k h) (lt_or_ge (length l) k)
+    (λ h. up_end x g l k h) (cases_lt (length l) k)
   where
     stays : (b : Bool) → eqb k (length l) ≡ false → k ≡ cond (b && eqb k (length l)) (suc k) k
     stays true e = rw e

@@ -1,4 +1,6 @@
 -- The step of the code on the padded grid is the step of the layer on the grid. Assumes nothing.
+use Rattle.std.proofs.lemmas.Bool.{cases_lt}
+use Rattle.std.proofs.Math.Bool.{and_comm}
 use Prim.Native.Nat.{ℕ, ◌+◌, ◌-◌, ◌*◌, ◌≤◌, ◌<◌, max, min}
 use mathlib.Core.Path.{◌≡◌, refl, sym, ap, ap₂, ◌∙◌, subst}
 use mathlib.Core.Logic.{◌⊎◌, inl, inr, ⊎_elim}
@@ -12,8 +14,6 @@ use Rattle.deck.specs.Sheet.{Sheet, area, free}
 use Rattle.deck.specs.declared.Carrier.{Carrier}
 use Rattle.deck.specs.declared.Constraint.{Constraint}
 use Rattle.kernel.specs.Parts.{free_move, step_free}
-use Rattle.kernel.proofs.Both.{and_turned}
-use Rattle.kernel.proofs.Choice.{lt_or_ge}
 use Rattle.bars.specs.Padded.{pad_of, Border, Holds, shade, MaskOf, Gate}
 use Rattle.bars.specs.Ways.{move_by, place_by, has_by, way_back, leaves, opens_by}
 use Rattle.bars.proofs.Gates.{shade_gate, opens_shade, open_leaves, gate_if, gate_shut}
@@ -65,7 +65,7 @@ module _ (d : Sheet) (i : Carrier) (cs : List Constraint) (t : ℕ) (back : Bool
 
       go : (b : Bool) → cond b (step_free d v u && free_move i cs t v u) (step_free d u v && free_move i cs t u v)
           ≡ (free d u && (cond b (free_move i cs t v u) (free_move i cs t u v) && (cond b (leaves d v x) (leaves d u (way_back x)) && free d v)))
-      go true = rw (step_by d v on x l h, and_turned (free d v) (free d u)) (arrange (leaves d v x) (free d u) (free d v) (free_move i cs t v u))
+      go true = rw (step_by d v on x l h, and_comm (free d v) (free d u)) (arrange (leaves d v x) (free d u) (free d v) (free_move i cs t v u))
       go false = rw (step_into d v on x l h) (arrange (leaves d u (way_back x)) (free d u) (free d v) (free_move i cs t u v))
 
   -- five labels with their gates, and the greatest of the layer around v
@@ -104,7 +104,7 @@ module _ (d : Sheet) (i : Carrier) (cs : List Constraint) (t : ℕ) (back : Bool
 
 -- a padded place outside the rows of the grid, or in them
 outside_or_in : (p a b : ℕ) → ((p < a) ⊎ (b ≤ p)) ⊎ ((a ≤ p) × (p < b))
-outside_or_in p a b = ⊎_elim (λ h. inl (inl h)) (λ h. ⊎_elim (λ k. inr (h, k)) (λ k. inl (inr k)) (lt_or_ge p b)) (lt_or_ge p a)
+outside_or_in p a b = ⊎_elim (λ h. inl (inl h)) (λ h. ⊎_elim (λ k. inr (h, k)) (λ k. inl (inr k)) (cases_lt p b)) (cases_lt p a)
 
 -- the filled rows of a layer hold a function, where the border is filled with 0
 module _ (d : Sheet) (g f : ℕ → ℕ) (before after : List ℕ) (fill : Filled (d.width + 2) ((d.width + 2) * (d.height + 1)) g before after)

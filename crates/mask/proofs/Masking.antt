@@ -1,16 +1,13 @@
 -- The mask, made row by row out of the sheet's grid bytes. Assumes nothing.
-use Rattle.std.proofs.Common.{ℕ, zero, suc, ◌+◌, ◌-◌, ◌*◌, ◌≤◌, ◌<◌, max, ◌≡◌, refl, sym, ap, ◌∙◌, subst, true, List, [], ◌∷◌, length, get_or, take, drop, replicate, None, T, ltb, arith}
+use Rattle.std.proofs.Common.{ℕ, zero, suc, ◌+◌, ◌-◌, ◌*◌, ◌≤◌, ◌<◌, max, ◌≡◌, refl, sym, ap, ◌∙◌, subst, true, List, [], ◌∷◌, length, get_or, take, drop, replicate, None, T, ltb, arith, ⊎_elim, mul-add, add-mul, suc-mul, mul_comm, mul-le-mul_right, div-lt_iff_lt-mul, ltb→lt, lt-ltb}
+use Rattle.std.proofs.lemmas.Bool.{cases_lt}
 use Rattle.std.specs.List.{fold, between}
-use mathlib.Core.Logic.{⊎_elim}
-use native.Mathlib.Nat.{mul-add, add-mul, suc-mul, mul_comm, mul-le-mul_right, div-lt_iff_lt-mul}
-use lib.ListN.{length-replicate, get_or-replicate, get_or-eq_default}
-use lib.Dec.{ltb→lt}
-use borrow.Author.Tests.{lt-ltb}
+use Rattle.std.proofs.lemmas.List.{length-replicate, get_or-replicate}
+use Rattle.std.proofs.Math.ListN.{get_or-eq_default}
 use Rattle.std.proofs.lemmas.List.Edits.{length-between, get_or-between}
 use Rattle.deck.specs.Sheet.{Sheet, read, area, cause, grid_pair, grid_stretch}
 use Rattle.meaning.proofs.Accepted.{accepted, accepted_inside, directory_says}
 use Rattle.sheet.proofs.Accepted.{width_range, height_range, grid_length}
-use Rattle.kernel.proofs.Choice.{lt_or_ge}
 use Rattle.bars.specs.Padded.{pad_of, shade_of, shade, MaskOf}
 use Rattle.bars.proofs.Grid.{pad_row, size_of, size_small}
 use Rattle.layers.specs.Fill.{Filled}
@@ -90,7 +87,7 @@ module _ (s : List ℕ) (ok : cause s ≡ None) where
     where
       zeros : (q : ℕ) → get_or {A = ℕ} (replicate 1156 0) q 0 ≡ 0
       zeros q = ⊎_elim (λ h. get_or-replicate {A = ℕ} 1156 q 0 0 h)
-          (λ h. get_or-eq_default (replicate {A = ℕ} 1156 0) 0 {n = q} (omega (arith, length-replicate {A = ℕ} 1156 0))) (lt_or_ge q 1156)
+          (λ h. get_or-eq_default (replicate {A = ℕ} 1156 0) 0 {n = q} (omega (arith, length-replicate {A = ℕ} 1156 0))) (cases_lt q 1156)
 
   -- one row more
   pub mask_more : (y : ℕ) → y < d.height → (before after : List ℕ) → Masked d (y * w) before
@@ -100,13 +97,13 @@ module _ (s : List ℕ) (ok : cause s ≡ None) where
       let e : (y + 1) * w ≡ y * w + w = omega (arith, add-mul y 1 w) in
       rw e (record {
         size = f.size ∙ m.size;
-        inside = λ v l. ⊎_elim (λ a. f.below (pad_of w v) (lower v a) ∙ m.inside v a) (λ a. new v a l) (lt_or_ge v (y * w));
+        inside = λ v l. ⊎_elim (λ a. f.below (pad_of w v) (lower v a) ∙ m.inside v a) (λ a. new v a l) (cases_lt v (y * w));
         border = λ p b. ⊎_elim
             (λ a. f.below p a ∙ m.border p (λ v l. b v (omega arith)))
             (λ a. ⊎_elim
             (λ c. absurd (b (y * w + (p - (y * (w + 2) + w + 3))) (omega arith) (pad_row w y (p - (y * (w + 2) + w + 3)) z (omega arith) ∙ omega arith)))
-            (λ c. f.above p (omega (arith, row_length y h)) ∙ m.border p (λ v l. b v (omega arith))) (lt_or_ge p (y * (w + 2) + w + 3 + w)))
-            (lt_or_ge p (y * (w + 2) + w + 3));
+            (λ c. f.above p (omega (arith, row_length y h)) ∙ m.border p (λ v l. b v (omega arith))) (cases_lt p (y * (w + 2) + w + 3 + w)))
+            (cases_lt p (y * (w + 2) + w + 3));
       })
     where
       lower : (v : ℕ) → v < y * w → pad_of w v < y * (w + 2) + w + 3

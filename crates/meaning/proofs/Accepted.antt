@@ -2,13 +2,14 @@
 -- directory inside the sheet, each carrier's start on the grid, and last goals that differ; and what an accepted search was lent.
 -- Assumes nothing.
 use Rattle.std.proofs.Common.{ℕ, zero, suc, ◌+◌, ◌*◌, ◌≤◌, ◌<◌, ◌≡◌, refl, sym, ap, ◌∙◌, ◌⊎◌, inl, inr, Bool, true, false, ◌&&◌, not, List, [], ◌∷◌, map, eq-or-lt_of_le, arith, T, leb, ltb, eqb, leb→le, ltb→lt, eqb→eq, length, length-take, length-drop, None, Option, Some, Ok, Err}
-use lib.ListN.{length-map, get_or-map}
+use Rattle.std.proofs.lemmas.List.{length-map}
+use Rattle.std.proofs.Math.ListN.{get_or-map}
 use Rattle.deck.specs.declared.Stretch.{Stretch}
 use Rattle.deck.specs.Causes.{unless, ◌or_else◌, answer_unless}
 use Rattle.deck.specs.Lists.{below, within, all, distinct, last}
 use Rattle.deck.specs.Sheet.{area, grid_byte, carrier, task, start_of, last_goal, byte_at, width_of, height_of, count_of, horizon_of, limit_of, part, pair_at, pairs_for, starts_pair, directory_end, grid_stretch, starts_stretch, task_stretch, words, read, free, chained, goals_size, good_header, good_directory, good_grid, good_starts, good_goals, good_last_goals, cause, sheet_cause}
 use Rattle.deck.specs.Calls.{workspace_of, workspace_cause, plan_words, search_cause}
-use Rattle.meaning.proofs.Tests.{Says, says_eqb, says_leb, says_and}
+use Rattle.meaning.proofs.Tests.{Says, says_itself, says_eqb, says_leb, says_and}
 use Rattle.std.specs.Prelude.{⊤}
 use Rattle.std.proofs.lemmas.Result.{MatchResult-at_ok, MatchResult-at_err}
 use Rattle.std.proofs.lemmas.Option.{none-some}
@@ -77,9 +78,6 @@ header_says s =
     says_and (says_and (says_and (says_and (says_and (says_and says_within says_within) says_within) says_within) says_within) says_eqb) says_eqb
 
 -- The directory
-says_itself : {b : Bool} → Says b (T b)
-says_itself = record { fact = λ t. t; test = λ t. t }
-
 pub directory_says : (s : List ℕ) → Says (good_directory s)
     (((((directory_end s ≤ length s) × T (chained s (pairs_for (count_of s)) 0 (directory_end s))) × ((grid_stretch s).size ≡ width_of s * height_of s))
     × ((starts_stretch s).size ≡ 2 * count_of s))

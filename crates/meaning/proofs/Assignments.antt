@@ -2,16 +2,11 @@
 -- numbers; the least is the first of them; each task of an assignment has a carrier; the table has the finish of each least path. Assumes
 -- nothing.
 use Rattle.std.proofs.Common.{ℕ, zero, suc, ◌+◌, ◌≤◌, ◌<◌, zero-le, suc-le-suc, ◌≡◌, refl, sym, ap, subst, ◌∙◌, ◌↔◌, ◌≢◌, ◌⊎◌, inl, inr, ⊎_elim, Bool, true, false, cond, not, List, [], ◌∷◌, map, Option, None, Some, not-suc-le-zero, le_of_suc-le-suc, eq-or-lt_of_le, le_refl, arith, length, get_or, ext_get_or, eqb}
-use mathlib.Core.List.Memᴰ.{cases_cons}
-use mathlib.Core.List.Memᴰ.{eq_of_singleton as only}
-use mathlib.Core.List.Memᴰ.{head as here}
-use mathlib.Core.List.Memᴰ.{not-nil}
-use mathlib.Core.List.Memᴰ.{tail as there}
-use mathlib.Core.List.{Memᴰ as Mem}
-use native.Mathlib.Nat.{suc_inj}
-use native.Mathlib.Decide.{ℕ_discrete}
-use lib.ListN.{length-map}
-use borrow.Author.Tests.{eqb-false}
+use Rattle.deck.proofs.Members.{Mem, here, there, not-nil, cases_cons, only, map_mem}
+use Rattle.std.proofs.Math.Nat.{suc_inj}
+use Rattle.std.proofs.Math.Decide.{ℕ_discrete}
+use Rattle.std.proofs.lemmas.List.{length-map}
+use Rattle.std.proofs.lemmas.Bool.{eqb-false}
 use Rattle.deck.specs.Lists.{below, all, select, each, sum}
 use Rattle.deck.specs.Sheet.{Sheet, carrier, task}
 use Rattle.deck.specs.Paths.{least_path}
@@ -19,7 +14,7 @@ use Rattle.deck.specs.Assignments.{barred, arrangements, assignments, entry_at, 
 use Rattle.meaning.specs.Meaning.{◌at◌, Assignment, Unbarred, StrictlyBefore, Less, AllBarred}
 use Rattle.meaning.proofs.Tests.{Says, says_eqb, says_not, says_iff}
 use Rattle.meaning.specs.Sorted.{Sorted}
-use Rattle.meaning.proofs.Lists.{mem_map, map_mem, mem_each, each_mem, mem_select, select_mem, mem_below, get_or_count_from, length_count_from, get_or_tabulate, sorted_select, sorted_map, sorted_count_from, sorted_each, each_at, Head, head_first}
+use Rattle.meaning.proofs.Lists.{mem_map, mem_each, each_mem, mem_select, select_mem, mem_below, get_or_count_from, length_count_from, get_or_tabulate, sorted_select, sorted_map, sorted_count_from, sorted_each, each_at, Head, head_first}
 use Rattle.meaning.proofs.ListTests.{at_mem, says_all_at}
 use Rattle.meaning.proofs.InOrder.{sorted_once, in_order_mem, in_order_sorted}
 

@@ -1,11 +1,7 @@
 -- The collisions that the definitions list are exactly those of the meaning, in its order. So the first of the list is the first
 -- collision, and the list is empty exactly if no two paths collide. Assumes nothing.
 use Rattle.std.proofs.Common.{ℕ, suc, ◌≤◌, ◌<◌, ◌≡◌, refl, sym, ap, subst, ◌∙◌, ◌↔◌, ◌⊎◌, inl, inr, ⊎_elim, ◌≢◌, Bool, true, false, cond, List, [], ◌∷◌, map, Option, None, Some, arith, T, ltb}
-use mathlib.Core.List.Memᴰ.{append_cases as cases_append}
-use mathlib.Core.List.Memᴰ.{append_left as in_left}
-use mathlib.Core.List.Memᴰ.{append_right as in_right}
-use mathlib.Core.List.Memᴰ.{not-nil}
-use mathlib.Core.List.{Memᴰ as Mem}
+use Rattle.deck.proofs.Members.{Mem, not-nil, in_left, in_right, cases_append, map_mem}
 use Rattle.deck.specs.Lists.{below, select, head_of}
 use Rattle.deck.specs.Sheet.{carrier}
 use Rattle.deck.specs.Collisions.{place_at, pairs, place_collides, move_collides, place_collision, move_collision, collisions_at, collisions, first_collision}
@@ -16,7 +12,7 @@ use Rattle.meaning.specs.Meaning.{Before, path_of, Collides, Collided, rank, Fir
 use Rattle.meaning.proofs.Tests.{Says, says_eqb, says_leb, says_and, says_not}
 use Rattle.meaning.proofs.Before.{before_refl, before_antisym}
 use Rattle.meaning.specs.Sorted.{Sorted}
-use Rattle.meaning.proofs.Lists.{nil_of_none, Head, head_first, mem_map, map_mem, mem_each, each_mem, mem_select, select_mem, mem_below, sorted_append, sorted_select, sorted_map, sorted_count_from, sorted_each}
+use Rattle.meaning.proofs.Lists.{nil_of_none, Head, head_first, mem_map, mem_each, each_mem, mem_select, select_mem, mem_below, sorted_append, sorted_select, sorted_map, sorted_count_from, sorted_each}
 
 -- a list that stands only if a test passes
 module _ {A : Type 0} where

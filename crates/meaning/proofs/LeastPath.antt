@@ -1,8 +1,7 @@
 -- The computed least path is the least path that is meant, and it is none exactly if there is no path under the constraints.
 -- Assumes nothing.
 use Rattle.std.proofs.Common.{ℕ, ◌<◌, ◌≡◌, refl, sym, ap, subst, ◌↔◌, ◌⊎◌, inl, inr, Bool, ◌&&◌, List, Option, None, Some, arith, T}
-use mathlib.Core.List.Memᴰ.{not-nil}
-use mathlib.Core.List.{Memᴰ as Mem}
+use Rattle.deck.proofs.Members.{Mem, not-nil}
 use Rattle.deck.specs.Lists.{all, take_least}
 use Rattle.deck.specs.Sheet.{Sheet, area, start_of}
 use Rattle.deck.specs.Paths.{walks, finish_of, serves, keeps, paths_under, taken, least_path}

@@ -1,7 +1,7 @@
 -- To make the new nodes of an expansion one at a time, as document 01 says it, and stop where N are made already, comes to the test
 -- that the definition makes of all of them at once; and the whole search comes to the same answer. Assumes nothing.
 use Rattle.std.proofs.Common.{ℕ, zero, suc, ◌+◌, ◌≤◌, ◌≡◌, refl, sym, ap, ◌∙◌, Bool, true, false, List, [], ◌∷◌, ◌++◌, append_assoc, append-nil, Option, None, Some, add-zero, arith, length, leb, ltb, ltb-true, ltb-false, leb-true, le-leb}
-use borrow.Author.Tests.{lt-leb}
+use Rattle.std.proofs.lemmas.Bool.{lt-leb}
 use Rattle.deck.specs.Search.{Problem, Node, State, Selected, Answer, no_plan, plan, Turn, done, more, root_of, child_node, task_of, child, child_with, next_root, rest_after, to_make, extend, expand, turn_with, turn, onward, run, search_from, searched}
 use Rattle.meaning.specs.Making.{and_then, added, add_if, make, make_root, make_with, make_child, make_each}
 

@@ -1,11 +1,6 @@
 -- What the tests on lists say: of each element, of each index, and that no number stands in a list twice. Assumes nothing.
 use Rattle.std.proofs.Common.{ℕ, zero, suc, ◌<◌, ◌≡◌, refl, sym, ap, subst, ⊎_elim, Bool, List, [], ◌∷◌, not-suc-le-zero, arith, length, get_or, eqb}
-use mathlib.Core.List.Memᴰ.{cases_cons}
-use mathlib.Core.List.Memᴰ.{cast}
-use mathlib.Core.List.Memᴰ.{head as here}
-use mathlib.Core.List.Memᴰ.{not-nil}
-use mathlib.Core.List.Memᴰ.{tail as there}
-use mathlib.Core.List.{Memᴰ as Mem}
+use Rattle.deck.proofs.Members.{Mem, here, there, not-nil, cases_cons, cast}
 use Rattle.deck.specs.Lists.{all, has, distinct}
 use Rattle.meaning.proofs.Tests.{Says, says_eqb, says_and, says_or, says_not, says_iff}
 

@@ -1,14 +1,7 @@
 -- Laws of the lists that the definitions are made of: what stands in them, and in what order. Assumes nothing.
-use Rattle.std.proofs.Common.{ℕ, zero, suc, ◌+◌, ◌*◌, ◌≤◌, ◌<◌, ◌≡◌, refl, sym, ap, subst, ◌∙◌, ◌↔◌, ◌⊎◌, inl, inr, ⊎_elim, Bool, true, false, cond, List, [], ◌∷◌, ◌++◌, map, append-nil, append_assoc, Option, None, Some, not-suc-le-zero, eq-or-lt_of_le, le_trans, le_refl, le_of_lt, le_of_suc-le-suc, suc-mul, mul-le-mul_right, arith, length, get_or, take, drop, replicate, get_or-append-add, drop-drop, T, leb, leb-true, leb-false}
-use mathlib.Core.List.Memᴰ.{append_cases as cases_append}
-use mathlib.Core.List.Memᴰ.{append_left as in_left}
-use mathlib.Core.List.Memᴰ.{append_right as in_right}
-use mathlib.Core.List.Memᴰ.{cases_cons}
-use mathlib.Core.List.Memᴰ.{head as here}
-use mathlib.Core.List.Memᴰ.{not-nil}
-use mathlib.Core.List.Memᴰ.{tail as there}
-use mathlib.Core.List.{Memᴰ as Mem}
-use lib.ListN.{length-map, get_or-append}
+use Rattle.std.proofs.Common.{ℕ, zero, suc, ◌+◌, ◌*◌, ◌≤◌, ◌<◌, ◌≡◌, refl, sym, ap, subst, ◌∙◌, ◌↔◌, ◌⊎◌, inl, inr, ⊎_elim, Bool, true, false, cond, List, [], ◌∷◌, ◌++◌, map, append-nil, append_assoc, Option, None, Some, not-suc-le-zero, eq-or-lt_of_le, le_trans, le_refl, le_of_lt, le_of_suc-le-suc, suc-mul, arith, length, get_or, take, drop, replicate, get_or-append-add, drop-drop, T, leb, leb-true, leb-false}
+use Rattle.deck.proofs.Members.{Mem, here, there, not-nil, cases_cons, in_left, in_right, cases_append}
+use Rattle.std.proofs.lemmas.List.{length-map, get_or_append_left}
 use Rattle.deck.specs.Lists.{count_from, below, sum, select, each, pieces, take_least, pick_least, head_of}
 use Rattle.meaning.specs.Sorted.{Sorted}
 
@@ -17,10 +10,6 @@ module _ {A B : Type 0} where
   mem_map f [] m = absurd (not-nil m)
   mem_map f (x ∷ xs) (here e) = (x, here refl, e)
   mem_map f (x ∷ xs) (there m) = let r = mem_map f xs m in (r.0, there r.1, r.2)
-
-  pub map_mem : (f : A → B) {x : A} {l : List A} → Mem x l → Mem (f x) (map f l)
-  map_mem f (here e) = here (ap f e)
-  map_mem f (there m) = there (map_mem f m)
 
   pub mem_each : (f : A → List B) (l : List A) {y : B} → Mem y (each f l) → (x : A) × Mem x l × Mem y (f x)
   mem_each f [] m = absurd (not-nil m)
@@ -110,7 +99,7 @@ pub each_at : {A B : Type 0} (f : A → List B) (w : ℕ) → ((x : A) → lengt
 each_at f w s [] c d i j h k = absurd (not-suc-le-zero h)
 each_at f w s (x ∷ l) c d zero j h k =
     let e : 0 * w + j ≡ j = omega arith in
-    rw e (get_or-append (f x) (each f l) d j (omega (arith, s x)))
+    rw e (get_or_append_left (f x) (each f l) d j (omega (arith, s x)))
 each_at f w s (x ∷ l) c d (suc i) j h k =
     let e : suc i * w + j ≡ length (f x) + (i * w + j) = omega (arith, s x, suc-mul i w) in
     rw (e, get_or-append-add (f x) (each f l) (i * w + j) d) (each_at f w s l c d i j (le_of_suc-le-suc h) k)
@@ -122,10 +111,6 @@ piece_at (suc m) n l zero h = let e : 0 * n ≡ 0 = omega arith in rw e
 piece_at (suc m) n l (suc i) h =
     let e : n + i * n ≡ suc i * n = omega (arith, suc-mul i n) in
     piece_at m n (drop n l) i (omega arith) ∙ ap (take n) (drop-drop (i * n) n l ∙ ap (λ k. drop k l) e)
-
--- and ends within the words of m pieces
-pub piece_inside : (i n m words : ℕ) → i < m → m * n ≤ words → i * n + n ≤ words
-piece_inside i n m words h k = omega (arith, suc-mul i n, mul-le-mul_right n h)
 
 -- the lists of the first elements, one more
 pub each_take : {A B : Type 0} (f : A → List B) (l : List A) (t : ℕ) (d : A) → t < length l → each f (take (suc t) l) ≡ each f (take t l) ++ f (get_or l t d)

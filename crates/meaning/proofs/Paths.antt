@@ -1,8 +1,8 @@
 -- The tests of steps, paths and constraints say what is meant, and the walks that are enumerated and serve a task are the paths.
 -- Assumes nothing.
 use Rattle.std.proofs.Common.{ℕ, zero, suc, ◌/◌, ◌%◌, ◌≤◌, ◌<◌, ◌≡◌, refl, ◌↔◌, ⊎_elim, Bool, true, false, cond, ◌&&◌, List, [], ◌∷◌, not-suc-le-zero, arith, length, T, eqb, eqb-true}
-use mathlib.Core.List.{Memᴰ as Mem}
-use borrow.Author.Tests.{eqb-false}
+use Rattle.deck.proofs.Members.{Mem}
+use Rattle.std.proofs.lemmas.Bool.{eqb-false}
 use Rattle.deck.specs.Lists.{all}
 use Rattle.deck.specs.Sheet.{Sheet, area, grid_byte, free, start_of, goals_of, last_goal}
 use Rattle.deck.specs.Paths.{one_apart, next_to, may_leave, beside, may_step, walks, finish_of, serves, keeps}

@@ -1,13 +1,15 @@
 -- Tests that compute, and what they say. Assumes nothing.
 use Rattle.std.proofs.Common.{ℕ, ◌≤◌, ◌≡◌, refl, ◌↔◌, ◌⊎◌, inl, inr, ⊎_elim, Bool, true, false, ◌&&◌, ◌||◌, not, List, [], ◌∷◌, T, eqb, eqb→eq, leb, leb→le, le→leb, T_not}
-use mathlib.Core.List.{cons≢nil}
-use lib.Dec.{eqb_refl, not_T}
+use Rattle.std.proofs.Math.Dec.{eqb_refl, not_T}
 use Rattle.deck.specs.Lists.{is_nil}
 
 -- the test b says P. A record, so that antt reads the test off the type: from `T b` it cannot
 pub record Says (b : Bool) (P : Type 0) : Type 0 where
   pub fact : T b → P
   pub test : P → T b
+
+pub says_itself : {b : Bool} → Says b (T b)
+says_itself = record { fact = λ t. t; test = λ t. t }
 
 pub says_eqb : {a b : ℕ} → Says (eqb a b) (a ≡ b)
 says_eqb {a} {b} = record { fact = eqb→eq a b; test = λ e. rw e (eqb_refl b) }
@@ -29,7 +31,7 @@ says_not {b} s = record { fact = λ t p. T_not b t (s.test p); test = λ n. not_
 
 pub says_nil : {A : Type 0} {l : List A} → Says (is_nil l) (l ≡ [])
 says_nil {l = []} = record { fact = λ t. refl; test = λ e. tt }
-says_nil {l = x ∷ l} = record { fact = λ t. absurd t; test = λ e. cons≢nil e }
+says_nil {l = x ∷ l} = record { fact = λ t. absurd t; test = λ e. cc e }
 
 pub says_iff : {b : Bool} {P Q : Type 0} → Says b P → P ↔ Q → Says b Q
 says_iff s e = record { fact = λ t. e.0 (s.fact t); test = λ q. s.test (e.1 q) }

@@ -1,7 +1,6 @@
 -- A path leaves no goal exactly if there are times at which it visits them in order. Assumes nothing.
 use Rattle.std.proofs.Common.{ℕ, zero, suc, ◌+◌, ◌≤◌, ◌<◌, ◌≡◌, refl, ap, ◌∙◌, ◌↔◌, ◌⊎◌, inl, inr, Bool, true, false, cond, List, [], ◌∷◌, eq-or-lt_of_le, arith, length, drop, drop_of_length-le, drop-cons, eqb, eqb-true}
-use mathlib.Core.List.{cons≢nil}
-use borrow.Author.Tests.{eqb-false}
+use Rattle.std.proofs.lemmas.Bool.{eqb-false}
 use Rattle.deck.specs.Paths.{left, visit}
 use Rattle.meaning.specs.Meaning.{Visits, ◌at◌}
 
@@ -46,7 +45,7 @@ module _ (h : ℕ) (p : List ℕ) where
     visits_of_left : (n t : ℕ) → t + n ≡ suc h → (gs : List ℕ) → left (drop t p) gs ≡ [] → Visits h p t gs
     unfolding left
     visits_of_left zero t e [] v = tt
-    visits_of_left zero t e (g ∷ gs) v = absurd (cons≢nil (rw (drop_of_length-le p {i = t} (omega arith)) at v))
+    visits_of_left zero t e (g ∷ gs) v = cc (rw (drop_of_length-le p {i = t} (omega arith)) at v)
     visits_of_left (suc n) t e gs v =
         sooner t (omega arith) gs (visits_of_left n (suc t) (omega arith) (visit (p at t) gs) (rw (drop-cons p t 0 (omega arith)) at v))
 

@@ -1,16 +1,12 @@
 -- The walks that are enumerated are those that go by steps, and they stand in the order of lists. Assumes nothing.
 use Rattle.std.proofs.Common.{ℕ, zero, suc, ◌<◌, ◌≡◌, refl, ap, ◌↔◌, inl, inr, List, [], ◌∷◌, not-suc-le-zero, arith, length, T}
-use mathlib.Core.List.Memᴰ.{cast}
-use mathlib.Core.List.Memᴰ.{eq_of_singleton}
-use mathlib.Core.List.Memᴰ.{head as here}
-use mathlib.Core.List.Memᴰ.{not-nil}
-use mathlib.Core.List.{Memᴰ as Mem}
+use Rattle.deck.proofs.Members.{Mem, here, not-nil, cast, only, map_mem}
 use Rattle.deck.specs.Lists.{below, each}
 use Rattle.deck.specs.Sheet.{Sheet, area}
 use Rattle.deck.specs.Paths.{may_step, steps, walks}
 use Rattle.meaning.specs.Meaning.{◌at◌, Before}
 use Rattle.meaning.specs.Sorted.{Sorted}
-use Rattle.meaning.proofs.Lists.{mem_map, map_mem, mem_each, each_mem, mem_select, select_mem, mem_below, sorted_select, sorted_map, sorted_count_from, sorted_each}
+use Rattle.meaning.proofs.Lists.{mem_map, mem_each, each_mem, mem_select, select_mem, mem_below, sorted_select, sorted_map, sorted_count_from, sorted_each}
 
 -- the places that a step may lead to are those of the grid that the test allows
 pub step_iff : (d : Sheet) (u v : ℕ) → Mem v (steps d u) ↔ ((v < area d) × T (may_step d u v))
@@ -29,7 +25,7 @@ pub record Walk (d : Sheet) (n u : ℕ) (p : List ℕ) : Type 0 where
 -- what is enumerated is a walk
 pub walk_of_mem : (d : Sheet) (n u : ℕ) {p : List ℕ} → Mem p (walks d n u) → Walk d n u p
 unfolding walks
-walk_of_mem d zero u m = rw (eq_of_singleton m) (record { long = refl; begins = refl; goes = λ t l. absurd (not-suc-le-zero l) })
+walk_of_mem d zero u m = rw (only m) (record { long = refl; begins = refl; goes = λ t l. absurd (not-suc-le-zero l) })
 walk_of_mem d (suc n) u m =
     let r = mem_map (λ q. u ∷ q) (each (walks d n) (steps d u)) m in
     let e = mem_each (walks d n) (steps d u) r.1 in

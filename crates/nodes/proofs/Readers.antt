@@ -11,7 +11,7 @@ use Rattle.deck.specs.Planner.{problem}
 use Rattle.deck.specs.Calls.{task_list, record_word, good_record, good_records}
 use Rattle.deck.specs.declared.Constraint.{Constraint}
 use Rattle.deck.specs.declared.Constraint.TheVariants.{Place, Move}
-use Rattle.meaning.proofs.Tests.{Says}
+use Rattle.meaning.proofs.Tests.{says_itself}
 use Rattle.meaning.proofs.Lists.{mem_below, each_at}
 use Rattle.meaning.proofs.ListTests.{mem_at, says_all}
 use Rattle.meaning.proofs.Accepted.{accepted, header_says, accepted_start}
@@ -94,9 +94,6 @@ module _ (d : Sheet) (work : List ℕ) (n : ℕ) where
 
 -- THE GATHERED RECORDS are records that the path call accepts
 module _ (d : Sheet) where
-  says_itself : {b : Bool} → Says b (T b)
-  says_itself = record { fact = λ t. t; test = λ t. t }
-
   both : (a b : Bool) → T a → T b → T (a && b)
   both true b x y = y
   both false b x y = absurd x

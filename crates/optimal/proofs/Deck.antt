@@ -1,11 +1,8 @@
 -- The deck as an instance of the search: the laws that the parts of its problem keep, where each start is on the grid and the horizon
 -- is below the barred entry. Assumes nothing.
 use Rattle.std.proofs.Common.{ℕ, zero, suc, ◌≤◌, ◌<◌, ◌≡◌, refl, sym, ap, subst, ◌∙◌, ◌⊎◌, inl, inr, ⊎_elim, ◌≢◌, List, [], ◌∷◌, Option, None, Some, le_of_lt, le_of_eq, lt_trans, arith}
-use mathlib.Core.List.Memᴰ.{head as here}
-use mathlib.Core.List.Memᴰ.{not-nil}
-use mathlib.Core.List.Memᴰ.{tail as there}
-use mathlib.Core.List.{Memᴰ as Mem}
-use native.Mathlib.Decide.{ℕ_discrete}
+use Rattle.deck.proofs.Members.{Mem, here, there, not-nil}
+use Rattle.std.proofs.Math.Decide.{ℕ_discrete}
 use Rattle.deck.specs.Lists.{below}
 use Rattle.deck.specs.Sheet.{Sheet, area, carrier, task, start_of}
 use Rattle.deck.specs.Paths.{finish_of, least_path}

@@ -1,16 +1,8 @@
 -- The invariant of the search, for any selection rule that keeps `Picked`: it holds at the start, each turn that goes on keeps it,
 -- and it makes each answer right. With one turn more than there may be nodes the search always answers. Assumes nothing.
 use Rattle.std.proofs.Common.{ℕ, zero, suc, ◌+◌, ◌≤◌, ◌<◌, ◌≡◌, refl, sym, ap, subst, ◌∙◌, ◌⊎◌, inl, inr, ⊎_elim, Bool, true, false, List, [], ◌∷◌, ◌++◌, Option, None, Some, le_trans, arith, leb, leb→le, length, length-append}
-use mathlib.Core.Bool.{false≢true}
-use mathlib.Core.List.Memᴰ.{append_cases as cases_append}
-use mathlib.Core.List.Memᴰ.{append_left as in_left}
-use mathlib.Core.List.Memᴰ.{append_right as in_right}
-use mathlib.Core.List.Memᴰ.{cases_cons}
-use mathlib.Core.List.Memᴰ.{eq_of_singleton as only}
-use mathlib.Core.List.Memᴰ.{head as here}
-use mathlib.Core.List.Memᴰ.{not-nil}
-use mathlib.Core.List.Memᴰ.{tail as there}
-use mathlib.Core.List.{Memᴰ as Mem}
+use Rattle.std.proofs.lemmas.Bool.{false≢true}
+use Rattle.deck.proofs.Members.{Mem, here, there, not-nil, cases_cons, only, in_left, in_right, cases_append}
 use Rattle.deck.specs.Search.{Problem, Node, State, Selected, Answer, no_plan, Turn, done, more, flowtime, root_of, child, next_root, rest_after, to_make, grown, extend, expand, turn_with, turn, onward, run, search_from, searched}
 use Rattle.meaning.proofs.Lists.{Taken}
 use Rattle.optimal.specs.Plans.{Rules, IsPlan, KeepsOwn, Splits, Rising, Laws, NoPlanBelow, Right}

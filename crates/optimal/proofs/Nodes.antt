@@ -2,13 +2,8 @@
 -- it covers; and a plan that it covers and that keeps one more constraint is covered by the child with that constraint. Assumes
 -- nothing.
 use Rattle.std.proofs.Common.{ℕ, ◌≤◌, ◌<◌, ◌≡◌, refl, ◌∙◌, ◌≢◌, ⊎_elim, List, [], ◌∷◌, Option, None, Some, le_refl, set, length-set}
-use mathlib.Core.List.Memᴰ.{cases_cons}
-use mathlib.Core.List.Memᴰ.{eq_of_singleton as only}
-use mathlib.Core.List.Memᴰ.{head as here}
-use mathlib.Core.List.Memᴰ.{not-nil}
-use mathlib.Core.List.Memᴰ.{tail as there}
-use mathlib.Core.List.{Memᴰ as Mem}
-use native.Mathlib.Decide.{ℕ_discrete}
+use Rattle.deck.proofs.Members.{Mem, here, there, not-nil, cases_cons, only}
+use Rattle.std.proofs.Math.Decide.{ℕ_discrete}
 use Rattle.deck.specs.Search.{Problem, Node, task_of, path_at, flowtime, path_or, root_of, child_with, child_node, child}
 use Rattle.meaning.proofs.Lists.{length_below, get_or_below}
 use Rattle.optimal.specs.Plans.{Rules, Legals, IsPlan, Fits, KeepsAll, KeepsOwn, Under, IsLeast, Served, Laws}

@@ -1,8 +1,8 @@
 -- Raising the node limit of the exact search: a plan or none stays the answer, and the bound of a spent search does not fall.
 -- Assumes nothing.
 use Rattle.std.proofs.Common.{ℕ, zero, suc, ◌+◌, ◌≤◌, ◌<◌, ◌≡◌, refl, Bool, true, false, List, [], ◌∷◌, ◌++◌, Option, None, Some, le_refl, le_trans, arith, leb, leb→le, length}
-use mathlib.Core.List.{Memᴰ as Mem}
-use lib.Dec.{nleb→lt}
+use Rattle.deck.proofs.Members.{Mem}
+use Rattle.std.proofs.Math.Dec.{nleb→lt}
 use Rattle.deck.specs.Search.{Problem, Node, State, Selected, Answer, plan, no_plan, spent, Turn, to_make, grown, extend, expand, turn_with, onward, run, search_from, searched, cheapest}
 use Rattle.optimal.specs.Plans.{Rules, Splits, Laws}
 use Rattle.optimal.specs.Nodes.{IsNode}

@@ -1,9 +1,7 @@
 -- Sums over the numbers below n, and lists in which one element is set. Assumes nothing.
 use Rattle.std.proofs.Common.{ℕ, ◌≤◌, ◌<◌, zero-le, ◌≡◌, refl, ◌≢◌, List, [], ◌∷◌, map, arith, length, get_or, set, get_or-set_same, get_or-set_other}
-use mathlib.Core.List.Memᴰ.{head as here}
-use mathlib.Core.List.Memᴰ.{tail as there}
-use mathlib.Core.List.{Memᴰ as Mem}
-use native.Mathlib.Decide.{ℕ_discrete}
+use Rattle.deck.proofs.Members.{Mem, here, there}
+use Rattle.std.proofs.Math.Decide.{ℕ_discrete}
 use Rattle.deck.specs.Lists.{below, sum}
 use Rattle.meaning.proofs.Lists.{mem_below}
 

@@ -1,5 +1,5 @@
 -- Demand 3 of the search call, for every input: what the answer says and the words that are written are right. Assumes nothing.
-use Rattle.std.proofs.Common.{ℕ, zero, suc, ◌<◌, ◌≡◌, refl, ap, subst, List, [], ◌∷◌, ◌++◌, append_assoc, arith, length, get_or, take, drop, take_at, drop_at, Option, None, Some}
+use Rattle.std.proofs.Common.{ℕ, suc, ◌<◌, ◌≡◌, refl, ap, subst, List, [], ◌∷◌, ◌++◌, append_assoc, arith, length, get_or, take, drop, take_at, drop_at, Option, None, Some}
 use Rattle.deck.specs.Lists.{flat, pieces}
 use Rattle.deck.specs.Sheet.{Sheet, read, sheet_cause}
 use Rattle.deck.specs.Search.{Answer, plan, no_plan, spent}

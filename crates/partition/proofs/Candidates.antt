@@ -1,8 +1,8 @@
 -- A part's candidate is its first assignment in order, and the least assignment of the part's table. Assumes nothing.
 use Rattle.std.proofs.Common.{ℕ, ◌≤◌, ◌<◌, ◌≡◌, refl, sym, ◌∙◌, ◌⊎◌, inl, inr, ⊎_elim, cond, not, List, Option, None, Some, le_refl, arith, eqb, lt-ltb, le-ltb, eq-eqb, ne_eqb}
-use mathlib.Core.List.Memᴰ.{not-nil}
-use mathlib.Core.List.{Memᴰ as Mem}
-use native.Mathlib.Decide.{ℕ_discrete}
+use Rattle.std.proofs.lemmas.Bool.{cases_lt}
+use Rattle.deck.proofs.Members.{Mem, not-nil}
+use Rattle.std.proofs.Math.Decide.{ℕ_discrete}
 use Rattle.deck.specs.Lists.{below, select, head_of}
 use Rattle.deck.specs.Assignments.{barred, entry_at, sum_of, assignments_in_order, least_assignment}
 use Rattle.meaning.specs.Meaning.{◌at◌, Assignment, Unbarred, Less}
@@ -10,7 +10,6 @@ use Rattle.meaning.proofs.Tests.{Says, says_eqb, says_and, says_iff}
 use Rattle.meaning.proofs.Lists.{sum_same, mem_select, select_mem, mem_below, sorted_select, Head, head_first}
 use Rattle.meaning.proofs.ListTests.{says_all}
 use Rattle.meaning.proofs.Assignments.{in_order_meant, in_order_rising, sum_at}
-use Rattle.prices.proofs.Growth.{lower}
 use Rattle.prices.proofs.Squares.{square_at}
 use Rattle.prices.proofs.First.{is_none, is_least}
 use Rattle.partition.specs.Parts.{Part, in_part, InPart, candidate, part_entry, part_table}
@@ -65,7 +64,7 @@ module _ (m : ℕ) (table : List ℕ) (q : Part) (low : q.row < m) where
   in_part_entry : (b : List ℕ) → Assignment m b → InPart q b → (i : ℕ) → i < m → entry_at m (part_table m table q) i (b at i) ≡ entry_at m table i (b at i)
   in_part_entry b h p i li = ⊎_elim
       (λ l. entry_before i (b at i) l (h.tasks i li) ∙ rw (eq-eqb (b at i) (q.tasks at i) (p.same i l)))
-      (λ l. go l (ℕ_discrete i q.row)) (lower i q.row)
+      (λ l. go l (ℕ_discrete i q.row)) (cases_lt i q.row)
     where
       go : q.row ≤ i → Dec (i ≡ q.row) → entry_at m (part_table m table q) i (b at i) ≡ entry_at m table i (b at i)
       go l (yes e) = rw e (entry_at_lem (b at q.row) (h.tasks q.row low) ∙ rw (eq-eqb (q.closed at (b at q.row)) 0 p.another))

@@ -1,8 +1,7 @@
 -- The least of the slots' first assignments is the next in order, and its part's slots then hold what remains of it. So taking the
 -- best slot again and again hands out the assignments in order. Assumes nothing.
 use Rattle.std.proofs.Common.{ℕ, zero, suc, ◌+◌, ◌-◌, ◌≤◌, ◌<◌, ◌≡◌, refl, sym, ap, subst, ◌∙◌, ◌⊎◌, inl, inr, ⊎_elim, ◌≢◌, List, [], ◌∷◌, ◌++◌, Option, None, Some, arith, length}
-use mathlib.Core.List.Memᴰ.{append_cases as cases_append, append_left as in_left, append_right as in_right, cases_cons, eq_of_singleton as only, head as here, not-nil, tail as there}
-use mathlib.Core.List.{Memᴰ as Mem}
+use Rattle.deck.proofs.Members.{Mem, here, there, not-nil, cases_cons, only, in_left, in_right, cases_append}
 use Rattle.deck.specs.Lists.{count_from, each}
 use Rattle.deck.specs.Assignments.{assignments_in_order, least_assignment}
 use Rattle.meaning.specs.Meaning.{◌at◌, Assignment, Unbarred, Less}

@@ -1,9 +1,9 @@
 -- The slots of a part from which an assignment is taken: they hold the others, and no two have one in common. Assumes nothing.
 use Rattle.std.proofs.Common.{ℕ, zero, suc, ◌≤◌, ◌<◌, ◌≡◌, refl, sym, ap, subst, ◌∙◌, ◌⊎◌, inl, inr, ⊎_elim, ◌≢◌, Bool, true, false, cond, List, not-suc-le-zero, eq-or-lt_of_le, le_of_suc-le-suc, le_refl, arith, length, set, length-set, ext_get_or, get_or-set_same, get_or-set_other, eqb, eqb-true, eq-eqb}
-use native.Mathlib.Decide.{ℕ_discrete}
-use lib.ListN.{get_or-replicate, get_or-eq_default}
+use Rattle.std.proofs.lemmas.Bool.{cases_lt}
+use Rattle.std.proofs.Math.Decide.{ℕ_discrete}
 use Rattle.meaning.specs.Meaning.{◌at◌, Assignment}
-use Rattle.prices.proofs.Growth.{lower}
+use Rattle.meaning.proofs.Lists.{get_or_same}
 use Rattle.partition.specs.Parts.{Part, InPart, none_closed, slot_part}
 
 -- the closed tasks of slot j, before the task of a is closed too
@@ -18,7 +18,7 @@ closed_long k ts j e = go (eqb j k)
     go false = refl
 
 pub none_closed_lem : (x : ℕ) → none_closed at x ≡ 0
-none_closed_lem x = ⊎_elim (λ l. get_or-replicate 12 x 0 0 l) (λ l. get_or-eq_default none_closed 0 l) (lower x 12)
+none_closed_lem x = get_or_same 0 12 x
 
 -- what it is to be in slot j: the tasks of a before carrier j, and another task for carrier j, not closed where j is the part's row
 pub record InSlot (a : List ℕ) (k : ℕ) (ts : List ℕ) (j : ℕ) (x : List ℕ) : Type 0 where
@@ -76,7 +76,7 @@ module _ (m : ℕ) (small : m ≤ 12) (q : Part) (long : length q.closed ≡ 12)
       go : Differ a x m → (x ≡ a) ⊎ ((j : ℕ) × (q.row ≤ j) × (j < m) × InPart (slot_part a q.row q.closed j) x)
       go (inl same) = inl (ext_get_or 0 x a (e ∙ sym h.as_many) (λ i l. same i (rw e at l)))
       go (inr (j, l, same, d)) =
-          let after : q.row ≤ j = ⊎_elim (λ k. absurd (d (r.same j k ∙ sym (p.same j k)))) (λ k. k) (lower j q.row) in
+          let after : q.row ≤ j = ⊎_elim (λ k. absurd (d (r.same j k ∙ sym (p.same j k)))) (λ k. k) (cases_lt j q.row) in
           inr (
             j,
             after,

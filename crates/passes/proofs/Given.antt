@@ -1,7 +1,6 @@
 -- What a ready sheet with good records gives. Assumes nothing.
 use Prim.Native.Nat.{ℕ, zero, suc, ◌/◌, ◌%◌, ◌≤◌, ◌<◌}
 use mathlib.Core.Path.{◌≡◌, sym, ◌∙◌, subst}
-use mathlib.Core.Bool.{Bool}
 use mathlib.Core.List.{List, Memᴰ as Mem}
 use native.Mathlib.Omega.{arith}
 use lib.ListN.{length}
@@ -12,7 +11,7 @@ use Rattle.deck.specs.Calls.{record_word, constraint_of, constraints_of, good_ta
 use Rattle.deck.specs.declared.Carrier.{Carrier}
 use Rattle.deck.specs.declared.Task.{Task}
 use Rattle.deck.specs.declared.Constraint.{Constraint}
-use Rattle.meaning.proofs.Tests.{Says, says_eqb, says_leb, says_and}
+use Rattle.meaning.proofs.Tests.{says_itself, says_eqb, says_leb, says_and}
 use Rattle.meaning.proofs.Lists.{mem_below}
 use Rattle.meaning.proofs.ListTests.{says_all}
 use Rattle.meaning.proofs.Accepted.{accepted_horizon}
@@ -26,9 +25,6 @@ use Rattle.bars.specs.Bars.{count_in, Timely, OnLayer}
 use Rattle.bars.proofs.Grid.{pad_most, size_of, size_small}
 use Rattle.bars.proofs.Records.{mem_record}
 use Rattle.passes.specs.Ready.{Ready}
-
-says_itself : {b : Bool} → Says b (T b)
-says_itself = record { fact = λ t. t; test = λ t. t }
 
 -- the last two words of a place record, and of a move record
 place_tail : (d : Sheet) (v t : ℕ) → T (good_tail d zero v t) → (v ≡ 0) × (t ≤ d.horizon)

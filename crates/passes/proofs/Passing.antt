@@ -1,14 +1,9 @@
 -- The code's layers are the layers of the two passes. Assumes nothing.
 use Prim.Native.Nat.{ℕ, suc, ◌+◌, ◌-◌, ◌≤◌, ◌<◌}
-use mathlib.Core.Path.{◌≡◌, refl, sym, ap, ◌∙◌, subst}
-use mathlib.Core.Logic.{⊎_elim}
-use mathlib.Core.Bool.{Bool, true, false, ◌&&◌}
-use mathlib.Core.List.{List, reverse}
-use native.Mathlib.Nat.{eq-or-lt_of_le}
-use native.Mathlib.Numerals.{add-one}
-use native.Mathlib.Omega.{arith}
-use lib.ListN.{length, get_or, replicate, length-reverse, length-replicate, get_or-replicate, get_or-eq_default}
-use lib.Dec.{T, leb, ltb, leb→le, le→leb, ltb→lt, lt→ltb}
+use Rattle.std.proofs.Common.{◌≡◌, refl, sym, ap, ◌∙◌, subst, ⊎_elim, Bool, true, false, ◌&&◌, List, reverse, eq-or-lt_of_le, add-one, arith, length, get_or, replicate, T, leb, ltb, leb→le, le→leb, ltb→lt, lt→ltb}
+use Rattle.std.proofs.lemmas.Bool.{cases_lt}
+use Rattle.std.proofs.lemmas.List.{length-reverse, length-replicate, get_or-replicate}
+use Rattle.std.proofs.Math.ListN.{get_or-eq_default}
 use Rattle.deck.specs.Sheet.{Sheet, read, area, start_of, goals_of, last_goal}
 use Rattle.deck.specs.Calls.{constraints_of}
 use Rattle.deck.specs.declared.Carrier.{Carrier}
@@ -19,7 +14,6 @@ use Rattle.kernel.specs.Labels.{all_goals}
 use Rattle.kernel.specs.Parts.{rest_from}
 use Rattle.kernel.specs.Kernel.{fore, hind, meets_at, LeastTime}
 use Rattle.kernel.proofs.Both.{and_left, and_right, and_both}
-use Rattle.kernel.proofs.Choice.{lt_or_ge}
 use Rattle.kernel.proofs.Blocked.{fore_blocked, hind_blocked}
 use Rattle.kernel.proofs.Bounds.{fore_le, hind_le}
 use Rattle.bars.specs.Padded.{pad_of, Holds}
@@ -146,7 +140,7 @@ module _ (s : List ℕ) (i : Carrier) (j : Task) (mask rs : List ℕ) (r : Ready
     pub time_here : NotYet t → b ≡ true → LeastTime d i j cs t
     time_here never e = record {
       meets = λ _. met_true e;
-      first = λ m k q. ⊎_elim (λ z. absurd (never m z q)) (λ z. z) (lt_or_ge m t);
+      first = λ m k q. ⊎_elim (λ z. absurd (never m z q)) (λ z. z) (cases_lt m t);
     }
 
     pub not_here : NotYet t → b ≡ false → NotYet (t + 1)
@@ -167,7 +161,7 @@ zeros_margin w h = record { size = length-replicate {A = ℕ} 1156 0; over = λ 
   where
     zeros : (q : ℕ) → get_or {A = ℕ} (replicate 1156 0) q 0 ≡ 0
     zeros q = ⊎_elim (λ h. get_or-replicate {A = ℕ} 1156 q 0 0 h)
-        (λ h. get_or-eq_default (replicate {A = ℕ} 1156 0) 0 {n = q} (omega (arith, length-replicate {A = ℕ} 1156 0))) (lt_or_ge q 1156)
+        (λ h. get_or-eq_default (replicate {A = ℕ} 1156 0) 0 {n = q} (omega (arith, length-replicate {A = ℕ} 1156 0))) (cases_lt q 1156)
 
 -- One turn of the pass: from is early, n the number of goals and p the padded last goal
 module _ (s : List ℕ) (i : Carrier) (j : Task) (mask rs : List ℕ) (r : Ready s i j mask rs) (w h : ℕ) (sized : Sized s w h) (goals : List ℕ) (g : GoalsOf s j goals)

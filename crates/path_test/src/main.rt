@@ -11,7 +11,7 @@ ghost use Rattle.std.specs.Prelude.{◌<◌, OnSome, length};
 
 use deck::{Carrier, Task};
 use std::io;
-use testing::Stored;
+use testing::{Output, Stored};
 
 #[derive(Drop)]
 struct Case<'a> {
@@ -83,13 +83,14 @@ fn call(
 ) -> io::Result<()> {
     let filler = 65537 * u32::from(case.filler);
     work.fill(filler);
-    match path::least_path(case.sheet, case.carrier, case.task, work, out, records) {
-        Ok(Some(finish)) => print!(rt; "found {finish}")?,
-        Ok(None) => print!(rt; "none")?,
+    let answer = path::least_path(case.sheet, case.carrier, case.task, work, out, records);
+    let written = Output(testing::changed(out, case.filler));
+    match answer {
+        Ok(Some(finish)) => println!(rt; "found {finish}{written}"),
+        Ok(None) => println!(rt; "none{written}"),
         Err(cause) => {
-            print!(rt; "refused {}", u8::from(cause))?;
-            testing::print_workspace_change(rt, work, filler)?;
+            let change = testing::workspace_change(work, filler);
+            println!(rt; "refused {}{change}{written}", u8::from(cause))
         }
     }
-    testing::print_output(rt, out, case.filler)
 }

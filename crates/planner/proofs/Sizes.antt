@@ -11,6 +11,7 @@ use native.Mathlib.Omega.{arith}
 use lib.ListN.{length, get_or}
 use lib.Dec.{leb}
 use Rattle.std.proofs.Common.{◌∙◌}
+use Rattle.std.proofs.lemmas.Bool.{cases_lt}
 use Rattle.std.proofs.lemmas.Option.{none-some}
 use Rattle.deck.specs.Lists.{below, sum, pieces}
 use Rattle.deck.specs.Sheet.{Sheet, read, cause, sheet_cause, area, task, count_of, horizon_of, start_of}
@@ -40,7 +41,6 @@ use Rattle.optimal.specs.Deck.{rules}
 use Rattle.optimal.proofs.Invariant.{Chosen, Picked, start_inv, TurnRight, turn_right}
 use Rattle.optimal.proofs.Select.{cheapest_picks}
 use Rattle.optimal.proofs.Deck.{laws}
-use Rattle.prices.proofs.Growth.{lower}
 use Rattle.collision.specs.Meant.{Meant as CollisionMeant}
 use Rattle.collision_scan.proofs.Words.{place_in_lem}
 use Rattle.plan_check.specs.Meant.{PlanFor, Meant as CheckMeant}
@@ -94,7 +94,7 @@ entry_small (x ∷ l) h (suc k) = entry_small l (λ i. h (suc i)) k
 
 module _ (m : ℕ) (table : List ℕ) (words : (k : ℕ) → table at k < 65536) where
   few : assignment_cause m table ≡ None → m ≤ 12
-  few e = ⊎_elim (λ h. absurd (none-some _ (sym e ∙ count_high m table h))) (λ h. h) (lower 12 m)
+  few e = ⊎_elim (λ h. absurd (none-some _ (sym e ∙ count_high m table h))) (λ h. h) (cases_lt 12 m)
 
   sum_of_small : (a : List ℕ) → length a ≤ 12 → sum_of m table a < word
   unfolding sum_of

@@ -1,9 +1,9 @@
 -- The assignment of least merged weight is the first in order: its weight is the least, and among those of that weight its list
 -- comes first. There is none exactly if that assignment is heavy. Assumes nothing.
 use Rattle.std.proofs.Common.{ℕ, zero, suc, ◌+◌, ◌-◌, ◌*◌, ◌≤◌, ◌<◌, suc-le-suc, zero-le, ◌≡◌, refl, sym, ap, ap₂, subst, ◌∙◌, ◌⊎◌, inl, inr, ⊎_elim, ◌≢◌, Bool, cond, List, [], ◌∷◌, map, Option, None, Some, eq-or-lt_of_le, le_of_suc-le-suc, mul-le-mul_right, suc-mul, arith, length, ltb, eq-eqb, ne_eqb, lt-ltb, le-ltb}
-use mathlib.Core.List.Memᴰ.{cases_cons, head as here, not-nil, tail as there}
-use mathlib.Core.List.{Memᴰ as Mem}
-use native.Mathlib.Nat.{suc_inj}
+use Rattle.std.proofs.lemmas.Bool.{cases_lt}
+use Rattle.deck.proofs.Members.{Mem, here, there, not-nil, cases_cons}
+use Rattle.std.proofs.Math.Nat.{suc_inj}
 use Rattle.deck.specs.Lists.{below, count_from, sum}
 use Rattle.deck.specs.Assignments.{barred, entry_at, sum_of, least_assignment}
 use Rattle.meaning.specs.Meaning.{◌at◌, Assignment, Unbarred, StrictlyBefore, Less}
@@ -12,7 +12,6 @@ use Rattle.meaning.proofs.Assignments.{Least, least_assignment_lem, sum_at}
 use Rattle.prices.specs.Matching.{cost, AtMost}
 use Rattle.prices.specs.Weights.{heavy, weigh, place, rank, place_of, merged, weights, merged_weights}
 use Rattle.prices.proofs.Sums.{sum_plus, sum_times, map_at, assigned_sum}
-use Rattle.prices.proofs.Growth.{lower}
 
 -- THE ORDER IS STRICT
 before_asym : (a b : List ℕ) → StrictlyBefore a b → StrictlyBefore b a → ⊥
@@ -83,7 +82,7 @@ rank_low (suc n) (x ∷ a) h =
 
 -- what is below k does not count against a multiple of k
 whole_parts : (k x y r s : ℕ) → s < k → x * k + r ≤ y * k + s → x ≤ y
-whole_parts k x y r s ls h = ⊎_elim (λ l. absurd (omega (arith, mul-le-mul_right k l, suc-mul y k))) (λ l. l) (lower y x)
+whole_parts k x y r s ls h = ⊎_elim (λ l. absurd (omega (arith, mul-le-mul_right k l, suc-mul y k))) (λ l. l) (cases_lt y x)
 
 abbrev total : List ℕ → ℕ
 total a = sum (map (λ x. x) a)
@@ -135,7 +134,7 @@ rank_sum (suc n) k (x ∷ a) f l h =
         let p : k + suc i ≡ suc k + i = omega arith in
         let q : suc n - suc (suc i) ≡ n - suc i = omega arith in
         let r : ltb (suc i) (suc n) ≡ ltb i n = ⊎_elim
-        (λ g. lt-ltb (suc i) (suc n) (suc-le-suc g) ∙ sym (lt-ltb i n g)) (λ g. le-ltb (suc i) (suc n) (suc-le-suc g) ∙ sym (le-ltb i n g)) (lower i n) in
+        (λ g. lt-ltb (suc i) (suc n) (suc-le-suc g) ∙ sym (lt-ltb i n g)) (λ g. le-ltb (suc i) (suc n) (suc-le-suc g) ∙ sym (le-ltb i n g)) (cases_lt i n) in
         subst (λ (z : ℕ). f z ≡ (a at i) * cond (ltb i n) (place (n - suc i)) 0) p
         (subst (λ (z : ℕ). f (k + suc i) ≡ (a at i) * cond (ltb i n) (place z) 0) q
         (subst (λ (z : Bool). f (k + suc i) ≡ (a at i) * cond z (place (suc n - suc (suc i))) 0) r (h (suc i) (suc-le-suc li))))

@@ -1,28 +1,14 @@
 -- One round of the Hungarian method: the tree of a row grows over entries of least slack until it reaches a free column, and the
 -- way back to the row is turned. Assumes nothing.
-use Rattle.std.proofs.Common.{ℕ, zero, suc, ◌+◌, ◌≤◌, ◌<◌, ◌≡◌, refl, sym, ap, subst, ◌∙◌, ◌⊎◌, inl, inr, ⊎_elim, ◌≢◌, Bool, true, false, map, not-suc-le-zero, le_refl, eq-or-lt_of_le, le_of_suc-le-suc, arith, ltb, ltb-true, ltb-false}
-use mathlib.Core.Bool.{false≢true}
-use native.Mathlib.Decide.{ℕ_discrete}
-use lib.ListN.{length-map}
+use Rattle.std.proofs.Common.{ℕ, zero, suc, ◌+◌, ◌≤◌, ◌<◌, ◌≡◌, refl, sym, ap, subst, ◌∙◌, ◌⊎◌, inl, inr, ⊎_elim, ◌≢◌, Bool, true, false, map, not-suc-le-zero, le_refl, eq-or-lt_of_le, le_of_suc-le-suc, arith}
+use Rattle.std.proofs.lemmas.Bool.{cases_lt, cases_Bool}
+use Rattle.std.proofs.Math.Decide.{ℕ_discrete}
+use Rattle.std.proofs.lemmas.List.{length-map}
 use Rattle.deck.specs.Lists.{below}
 use Rattle.meaning.specs.Meaning.{◌at◌, Assignment}
 use Rattle.meaning.proofs.Lists.{get_or_tabulate, length_count_from}
 use Rattle.meaning.proofs.Assignments.{each_assigned}
 use Rattle.prices.specs.Matching.{Tight, AtMost, Bounded, Put, Raised, LeastSlack, Matches, Reached, Tree, Turning}
-
-pub lower : (a b : ℕ) → (a < b) ⊎ (b ≤ a)
-lower a b = go (ltb a b) refl
-  where
-    go : (t : Bool) → ltb a b ≡ t → (a < b) ⊎ (b ≤ a)
-    go true e = inl (ltb-true a b e)
-    go false e = inr (ltb-false a b e)
-
-pub marked_or_not : (b : Bool) → (b ≡ true) ⊎ (b ≡ false)
-marked_or_not true = inl refl
-marked_or_not false = inr refl
-
-clash : {b : Bool} → b ≡ true → b ≡ false → ⊥
-clash e f = false≢true (sym f ∙ e)
 
 -- only the prices of rows and columns below m count
 pub same_prices : (m : ℕ) (c : ℕ → ℕ → ℕ) (r : ℕ) (u v task carrier u' v' : ℕ → ℕ) → Matches m c r u v task carrier
@@ -64,7 +50,7 @@ module _ (m : ℕ) (c : ℕ → ℕ → ℕ) (r : ℕ) (u v task carrier : ℕ �
 
   look : (n : ℕ) → some_free n
   look zero = inr (λ k l. absurd (not-suc-le-zero l))
-  look (suc n) = go (look n) (lower (carrier n) m)
+  look (suc n) = go (look n) (cases_lt (carrier n) m)
     where
       go : some_free n → (carrier n < m) ⊎ (m ≤ carrier n) → some_free (suc n)
       go (inl (k, l, h)) g = inl (k, omega arith, h)
@@ -93,7 +79,7 @@ module _ (m : ℕ) (c : ℕ → ℕ → ℕ) (r : ℕ) (u v task carrier : ℕ �
 
   -- its price is 0, which bounds all prices by the greatest entry
   pub bounded : Bounded m c u v
-  bounded w h k lk = (row k lk, ⊎_elim (λ l. omega (arith, M.tight k lk l, row (carrier k) l)) (λ l. omega (arith, M.unpriced k lk l)) (lower (carrier k) m))
+  bounded w h k lk = (row k lk, ⊎_elim (λ l. omega (arith, M.tight k lk l, row (carrier k) l)) (λ l. omega (arith, M.unpriced k lk l)) (cases_lt (carrier k) m))
     where
       row : (i : ℕ) → i < m → u i ≤ w
       row i li = let f = free_column in omega (arith, M.feasible i f.0 li f.1, M.unpriced f.0 f.1 f.2, h i f.0 li f.1)
@@ -101,7 +87,7 @@ module _ (m : ℕ) (c : ℕ → ℕ → ℕ) (r : ℕ) (u v task carrier : ℕ �
   module _ (rows columns : ℕ → Bool) (from order : ℕ → ℕ) (n : ℕ) (G : Tree m c r u v task carrier rows columns from order n) where
     -- a free column is not in the tree
     pub free_outside : (k : ℕ) → k < m → m ≤ carrier k → columns k ≡ false
-    free_outside k lk l = ⊎_elim (λ e. absurd (omega (arith, (G.column k lk e).0))) (λ e. e) (marked_or_not (columns k))
+    free_outside k lk l = ⊎_elim (λ e. absurd (omega (arith, (G.column k lk e).0))) (λ e. e) (cases_Bool (columns k))
 
     -- so there is an entry that leads out of the tree
     pub some_outside : (k : ℕ) × (k < m) × (columns k ≡ false)
@@ -109,11 +95,11 @@ module _ (m : ℕ) (c : ℕ → ℕ → ℕ) (r : ℕ) (u v task carrier : ℕ �
 
     -- the row of a column outside the tree is outside the tree
     carrier_outside : (k : ℕ) → k < m → carrier k < m → columns k ≡ false → rows (carrier k) ≡ false
-    carrier_outside k lk l out = ⊎_elim (λ e. absurd (inside (G.row (carrier k) l e))) (λ e. e) (marked_or_not (rows (carrier k)))
+    carrier_outside k lk l out = ⊎_elim (λ e. absurd (inside (G.row (carrier k) l e))) (λ e. e) (cases_Bool (rows (carrier k)))
       where
         inside : (carrier k ≡ r) ⊎ ((task (carrier k) < m) × (columns (task (carrier k)) ≡ true)) → ⊥
         inside (inl e) = omega (arith, M.unmatched r (le_refl r) lr, M.task_of k lk l, ap task e)
-        inside (inr (t, e)) = clash (rw (M.task_of k lk l) at e) out
+        inside (inr (t, e)) = cc (M.task_of k lk l)
 
     module _ (i j d : ℕ) (L : LeastSlack m c u v rows columns i j d) where
       -- the raised prices fit where the entries fit
@@ -137,10 +123,10 @@ module _ (m : ℕ) (c : ℕ → ℕ → ℕ) (r : ℕ) (u v task carrier : ℕ �
 
         pub raised_matching : Matches m c r u' v' task carrier
         raised_matching = record {
-          feasible = λ x y lx ly. fe x y lx ly (marked_or_not (rows x)) (marked_or_not (columns y));
+          feasible = λ x y lx ly. fe x y lx ly (cases_Bool (rows x)) (cases_Bool (columns y));
           tight = λ k lk l. ⊎_elim
               (λ e. let t = G.column k lk e in inside_tight (carrier k) k l lk t.1 e (M.tight k lk l))
-              (λ e. outside_tight (carrier k) k l lk (carrier_outside k lk l e) e (M.tight k lk l)) (marked_or_not (columns k));
+              (λ e. outside_tight (carrier k) k l lk (carrier_outside k lk l e) e (M.tight k lk l)) (cases_Bool (columns k));
           task_of = M.task_of;
           carrier_of = M.carrier_of;
           unpriced = λ k lk l. omega (arith, W.others k lk (free_outside k lk l), M.unpriced k lk l);
@@ -160,7 +146,7 @@ module _ (m : ℕ) (c : ℕ → ℕ → ℕ) (r : ℕ) (u v task carrier : ℕ �
         module _ (from' order' : ℕ → ℕ) (F : Put from j i from') (O : Put order j n order') where
           -- a column of the tree is another than j
           other_column : (k : ℕ) → columns k ≡ true → k ≢ j
-          other_column k e q = clash (subst (λ (z : ℕ). columns z ≡ true) q e) L.to_column
+          other_column k e q = cc
 
           order_kept : (k : ℕ) → columns k ≡ true → order' k ≡ order k
           order_kept k e = O.other k (other_column k e)

@@ -1,13 +1,12 @@
 -- The entries of a table of m rows and m columns. Assumes nothing.
 use Rattle.std.proofs.Common.{ℕ, ◌+◌, ◌*◌, ◌/◌, ◌%◌, ◌≤◌, ◌<◌, ◌≡◌, refl, sym, ap, subst, ◌∙◌, ⊎_elim, List, [], ◌∷◌, map, zero-mul, suc-mul, mod-lt, div-lt_iff_lt-mul, div-add-mod', arith, length, get_or, length-append, ext_get_or}
-use mathlib.Core.List.Memᴰ.{head as here, tail as there}
-use mathlib.Core.List.{Memᴰ as Mem}
-use lib.ListN.{length-map}
+use Rattle.std.proofs.lemmas.Bool.{cases_lt}
+use Rattle.deck.proofs.Members.{Mem, here, there}
+use Rattle.std.proofs.lemmas.List.{length-map}
 use Rattle.deck.specs.Lists.{below, each}
 use Rattle.deck.specs.Assignments.{barred, entry_at}
 use Rattle.meaning.proofs.Lists.{mem_below, get_or_count_from, length_count_from, get_or_tabulate, each_at}
 use Rattle.prices.specs.Square.{square}
-use Rattle.prices.proofs.Growth.{lower}
 
 pub square_at : (m : ℕ) (f : ℕ → ℕ → ℕ) (i j : ℕ) → i < m → j < m → entry_at m (square m f) i j ≡ f i j
 unfolding square
@@ -47,7 +46,7 @@ square_own m table e = ext_get_or barred (square m (entry_at m table)) table (sq
   where
     at_index : (k : ℕ) → k < m * m → get_or (square m (entry_at m table)) k barred ≡ get_or table k barred
     at_index k l =
-        let pos : 0 < m = ⊎_elim (λ h. h) (λ h. absurd (none h)) (lower 0 m) in
+        let pos : 0 < m = ⊎_elim (λ h. h) (λ h. absurd (none h)) (cases_lt 0 m) in
         let low_column : k % m < m = mod-lt k pos in
         let low_row : k / m < m = (div-lt_iff_lt-mul pos).1 l in
         let parts : k / m * m + k % m ≡ k = div-add-mod' k m in

@@ -1,8 +1,8 @@
 -- Sums over lists of numbers, and over the tasks of an assignment: each task is there once. Assumes nothing.
 use Rattle.std.proofs.Common.{ℕ, zero, suc, ◌+◌, ◌-◌, ◌*◌, ◌≤◌, ◌<◌, ◌≡◌, refl, sym, ap, ◌∙◌, ◌⊎◌, inl, inr, ⊎_elim, ◌≢◌, Bool, true, false, cond, not, List, [], ◌∷◌, map, add-mul, zero-mul, arith, length, get_or, ext_get_or, eqb, eqb-true, ne_eqb}
-use mathlib.Core.List.Memᴰ.{cases_cons, eq_of_singleton as only, head as here, not-nil, tail as there}
-use mathlib.Core.List.{Memᴰ as Mem}
-use lib.ListN.{length-map, get_or-map}
+use Rattle.deck.proofs.Members.{Mem, here, there, not-nil, cases_cons, only}
+use Rattle.std.proofs.lemmas.List.{length-map}
+use Rattle.std.proofs.Math.ListN.{get_or-map}
 use Rattle.std.proofs.lemmas.Bool.{eqb-false}
 use Rattle.deck.specs.Lists.{below, count_from, select, sum}
 use Rattle.deck.specs.Assignments.{arrangements, assignments}

@@ -1,7 +1,7 @@
 -- The frame: words put anew inside one field change that field of the cut list and no other. Assumes nothing.
 use Rattle.std.proofs.Common.{◌≡◌, refl, ◌∙◌, ap, List, [], ◌∷◌, ◌++◌, append_assoc, ℕ, zero, suc, ◌+◌, ◌-◌, ◌<◌, ◌≤◌, add_assoc, arith, add-one, length, get_or, set, take, drop, length-drop, length-append, take_at, drop_at, take-add, drop-drop, length-take-le, get_or-take, get_or-drop, take-take}
-use lib.Seq.{set_split, take-append-le, drop-append-le, take-append-add, drop-append-add}
-use Rattle.std.proofs.lemmas.List.{drop-take}
+use Rattle.std.proofs.lemmas.List.{set_split, take-append-le, drop-append-le, drop-take}
+use Rattle.std.proofs.Math.Seq.{take-append-add, drop-append-add}
 use Rattle.deck.specs.Lists.{sum}
 use Rattle.records.specs.Cut.{part, put, offset, cut}
 

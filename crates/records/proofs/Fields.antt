@@ -1,6 +1,5 @@
 -- The words of a record's fields, where they stand in the record. Assumes nothing.
-use Rattle.std.proofs.Common.{ℕ, zero, suc, ◌≡◌, ◌+◌, ◌*◌, ◌-◌, ◌<◌, ◌≤◌, List, [], length, get_or, refl, sym, ◌∙◌, arith, take_all}
-use Rattle.std.specs.Prelude.{Some}
+use Rattle.std.proofs.Common.{Some, None, ℕ, zero, suc, ◌≡◌, ◌+◌, ◌*◌, ◌-◌, ◌<◌, ◌≤◌, List, [], length, get_or, refl, sym, ◌∙◌, arith, take_all}
 use Rattle.deck.specs.declared.Constraint.{Constraint}
 use Rattle.records.specs.Cut.{part, offset}
 use Rattle.records.specs.Record.{layout, fields, slot_in, origin_of}
@@ -45,6 +44,10 @@ pub slot_part : (fs : List (List ℕ)) (j : ℕ) → part (14 * j + 2) 12 (get_o
 slot_part fs j = sym (part_part (14 * j) 14 2 12 (get_or fs 6 []) (omega arith))
 
 -- a child has a parent
-pub origin_is : (l : ℕ) (c : Constraint) → (l ≡ 0 → ⊥) → Some (record { parent = l - 1; constraint = c }) ≡ origin_of l c
-origin_is zero c n = absurd (n refl)
-origin_is (suc p) c n = let e : suc p - 1 ≡ p = omega arith in rw e
+pub no_origin : (l : ℕ) (c : Constraint) → (1 ≤ l → ⊥) → None ≡ origin_of l c
+no_origin zero c n = refl
+no_origin (suc q) c n = absurd (n (omega arith))
+
+pub origin_is : (l p : ℕ) (c : Constraint) → (1 ≤ l) × (p ≡ l - 1) → Some (record { parent = p; constraint = c }) ≡ origin_of l c
+origin_is zero p c h = absurd (omega (arith, h.0))
+origin_is (suc q) p c h = let e : p ≡ q = omega (arith, h.1) in rw e refl

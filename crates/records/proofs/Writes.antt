@@ -1,12 +1,11 @@
 -- What each writer leaves in the workspace, from what its calls and stores leave. Assumes nothing.
-use Rattle.std.proofs.Common.{◌≡◌, refl, sym, ◌∙◌, ap, List, [], ◌∷◌, append-nil, append_assoc, ℕ, ◌+◌, ◌*◌, ◌-◌, ◌<◌, ◌≤◌, add-zero, arith, length, get_or, set, take, drop, replicate, length-set, drop_of_length-le, get_or-set_other, drop-drop}
-use lib.ListN.{length-replicate}
-use lib.Seq.{paste}
+use Rattle.std.proofs.Common.{◌≡◌, refl, sym, ◌∙◌, ap, List, [], ◌∷◌, append-nil, append_assoc, ℕ, ◌+◌, ◌*◌, ◌-◌, ◌<◌, ◌≤◌, add-zero, arith, length, get_or, set, take, drop, replicate, length-set, drop_of_length-le, get_or-set_other, drop-drop, Option}
+use Rattle.std.proofs.lemmas.List.{length-replicate}
+use Rattle.std.proofs.Math.Seq.{paste}
 use Rattle.deck.specs.declared.Constraint.{Constraint}
 use Rattle.records.specs.Cut.{part, put, offset, cut}
 use Rattle.records.specs.Record.{layout, fields, fields_at, words_of, with_path, with_slot, slot_in, slot_words, root_fields, Wrote}
 use Rattle.candidates.specs.declared.Candidate.{Candidate}
-use Rattle.std.specs.Prelude.{Option}
 use Rattle.records.proofs.Cuts.{set_put, length_part, length_put, part_lent, part_part, cut_inside, offset_sum}
 use Rattle.records.proofs.Frames.{wrote, wrote_word, wrote_record, wrote_then, length_field}
 use Rattle.records.proofs.Fields.{length_of_field, field_part}

@@ -1,6 +1,9 @@
 // The records of the search's nodes in the lent workspace: record n at words 512 n to 512 n + 511, and past all `limit` records
 // a key for each node. Every field is read and written here and nowhere else.
 // Kept: fields at offsets, and nodes by their numbers: the workspace is words that C lends, in fixed memory.
+// Kept: the lent words, `HasRecord` and `HasNodes`. A struct over the words proves, but each function that takes it must also ensure
+// that it holds the same words afterwards, and the clauses grow.
+// Kept: `j < 12` and `Small`: a type for a slot's number or for a small constraint would be made by each caller, to be taken apart here.
 #![tactic(auto)]
 
 ghost use Rattle.std.specs.Prelude.{◌≡◌, [], ◌∷◌, ◌+◌, ◌-◌, ◌*◌, ◌<◌, ◌≤◌, length, get_or, set, sum as std_sum};
@@ -146,12 +149,9 @@ impl<'a> Record<'a> {
     pub fn origin(&self) -> Option<Origin>
         ensures { result ≡ origin_in self.now }
     {
-        let link = self.words[0] as usize;
-        if link == 0 {
-            return None;
-        }
+        let parent = (self.words[0] as usize).checked_sub(1)?;
         Some(Origin {
-            parent: link - 1,
+            parent,
             constraint: constraint_of(&self.words[CONSTRAINT..CONSTRAINT + 5]),
         })
     }
@@ -250,9 +250,6 @@ pub fn keys(work: &[u32], limit: usize, from: usize, until: usize) -> &[u32]
 
 // WRITING
 
-// Kept: the lent words and `HasRecord`. A struct over the words proves, but each function that takes it must also ensure that it
-// holds the same words afterwards, and the clauses grow.
-
 // Writes where node n comes from.
 pub fn set_origin(work: &mut [u32], n: usize, origin: Origin)
     requires { HasRecord work.old n × (origin.parent + 1 < 4294967296) × Small origin.constraint }
@@ -281,6 +278,7 @@ pub fn copy_record(work: &mut [u32], from: usize, to: usize)
 }
 
 // Writes the finish and the packed path of a carrier.
+// Kept: `last` beside the path, since the clause speaks of the packed path by it.
 pub fn put_path(
     work: &mut [u32],
     n: usize,

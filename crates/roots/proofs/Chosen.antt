@@ -1,14 +1,14 @@
 -- The chosen slot is one whose assignment is no later than those of the others. Assumes nothing.
-use Rattle.std.specs.Prelude.{Some, None, Option}
-use Rattle.std.proofs.Common.{ℕ, ◌+◌, ◌-◌, ◌<◌, ◌≤◌, ◌≡◌, refl, sym, ap, subst, ◌∙◌, ◌⊎◌, inl, inr, ⊎_elim, Bool, true, false, cond, List, [], ◌∷◌, ◌++◌, append_assoc, append-nil, arith, length, take, replicate, length-append, get_or-append-add, eqb, eq-eqb, eqb-true}
-use mathlib.Core.Bool.{false≢true}
+use Rattle.std.proofs.Common.{Some, None, Option, ℕ, ◌+◌, ◌-◌, ◌<◌, ◌≤◌, ◌≡◌, refl, sym, ap, subst, ◌∙◌, ◌⊎◌, inl, inr, ⊎_elim, Bool, true, false, cond, List, [], ◌∷◌, ◌++◌, append_assoc, append-nil, arith, length, take, replicate, length-append, get_or-append-add, eqb, eq-eqb, eqb-true}
+use Rattle.std.proofs.lemmas.List.{get_or-replicate, length-replicate, get_or_append_left}
+use Rattle.std.proofs.lemmas.Bool.{false≢true, cases_lt}
 use mathlib.Core.List.Memᴰ.{append_cases as cases_append}
 use mathlib.Core.List.Memᴰ.{eq_of_singleton as only}
 use mathlib.Core.List.Memᴰ.{head as here}
 use mathlib.Core.List.Memᴰ.{tail as there}
 use mathlib.Core.List.{Memᴰ as Mem}
 use native.Mathlib.Nat.{suc_inj}
-use lib.ListN.{get_or-append, get_or-replicate, get_or-eq_default, length-replicate}
+use Rattle.std.proofs.Math.ListN.{get_or-eq_default}
 use Rattle.deck.specs.Lists.{each}
 use Rattle.deck.specs.Assignments.{sum_of}
 use Rattle.deck.specs.Calls.{task_list}
@@ -16,7 +16,6 @@ use Rattle.meaning.specs.Meaning.{◌at◌, Assignment, Unbarred, StrictlyBefore
 use Rattle.meaning.proofs.Tests.{Says, is_true}
 use Rattle.meaning.proofs.Lists.{count_from_mem, each_mem}
 use Rattle.prices.proofs.First.{less_trans}
-use Rattle.prices.proofs.Growth.{lower}
 use Rattle.partition.specs.Parts.{Slot}
 use Rattle.partition.proofs.Candidates.{Candidate, candidate_meant}
 use Rattle.candidates.specs.Candidates.{candidate_for}
@@ -34,8 +33,8 @@ list_lower [] (y ∷ b) e = absurd (omega (arith, e))
 list_lower (x ∷ a) [] e = absurd (omega (arith, e))
 list_lower (x ∷ a) (y ∷ b) e = ⊎_elim
     (λ l. inr (inl (inl l)))
-    (λ g. ⊎_elim (λ l. inr (inr (inl l))) (λ h. same (omega arith) (list_lower a b (suc_inj e))) (lower y x))
-    (lower x y)
+    (λ g. ⊎_elim (λ l. inr (inr (inl l))) (λ h. same (omega arith) (list_lower a b (suc_inj e))) (cases_lt y x))
+    (cases_lt x y)
   where
     same : x ≡ y → (a ≡ b) ⊎ (StrictlyBefore a b ⊎ StrictlyBefore b a) → (x ∷ a ≡ y ∷ b) ⊎ (StrictlyBefore (x ∷ a) (y ∷ b) ⊎ StrictlyBefore (y ∷ b) (x ∷ a))
     same z (inl s) = inl (rw (z, s))
@@ -45,8 +44,8 @@ list_lower (x ∷ a) (y ∷ b) e = ⊎_elim
 not_less : (m : ℕ) (table a b : List ℕ) → length a ≡ length b → (Less m table a b → ⊥) → (a ≡ b) ⊎ Less m table b a
 not_less m table a b e never = ⊎_elim
     (λ l. absurd (never (inl l)))
-    (λ g. ⊎_elim (λ l. inr (inl l)) (λ h. same (omega arith) (list_lower a b e)) (lower (sum_of m table b) (sum_of m table a)))
-    (lower (sum_of m table a) (sum_of m table b))
+    (λ g. ⊎_elim (λ l. inr (inl l)) (λ h. same (omega arith) (list_lower a b e)) (cases_lt (sum_of m table b) (sum_of m table a)))
+    (cases_lt (sum_of m table a) (sum_of m table b))
   where
     same : sum_of m table a ≡ sum_of m table b → (a ≡ b) ⊎ (StrictlyBefore a b ⊎ StrictlyBefore b a) → (a ≡ b) ⊎ Less m table b a
     same z (inl s) = inl s
@@ -56,8 +55,8 @@ not_less m table a b e never = ⊎_elim
 -- a list of 12 is of bytes
 pub list_bytes : (m : ℕ) (a : List ℕ) → m ≤ 12 → Assignment m a → (i : ℕ) → task_list a at i < 256
 list_bytes m a small h i = ⊎_elim
-    (λ l. omega (arith, get_or-append a (replicate (12 - length a) 255) 0 i l, h.tasks i (omega (arith, h.as_many))))
-    (λ l. past (lower i 12) l) (lower i (length a))
+    (λ l. omega (arith, get_or_append_left a (replicate (12 - length a) 255) 0 i l, h.tasks i (omega (arith, h.as_many))))
+    (λ l. past (cases_lt i 12) l) (cases_lt i (length a))
   where
     past : (i < 12) ⊎ (12 ≤ i) → length a ≤ i → task_list a at i < 256
     past (inl g) l =

@@ -21,20 +21,15 @@ slot_code_lem k None h = refl
 slot_code_lem k (Some c) h = rw (add-one c.j, h.0)
 
 -- READ
-pub some_choice : (c : ℕ) → c ≢ 0 → Chosen ((c - 1) / 16) ((c - 1) % 16) ≡ choice_of c
-some_choice c ne =
-    let e : c ≡ suc (c - 1) = omega (arith, ne) in
-    sym (ap choice_of e)
-
 module _ (work : List ℕ) (k : ℕ) where
-  pub no_own : (q : ℕ) → q ≡ tournament_in (fields_at work k) → q % 16 ≡ 0 → None ≡ own_at work k
+  pub no_own : (q : ℕ) → q ≡ tournament_in (fields_at work k) → (1 ≤ q % 16 → ⊥) → None ≡ own_at work k
   unfolding own_at
-  no_own q e z = rw (← e, z)
+  no_own q e n = let z : q % 16 ≡ 0 = omega (arith, n) in rw (← e, z)
 
-  pub some_own : (q : ℕ) → q ≡ tournament_in (fields_at work k) → q % 16 ≢ 0 → Chosen k (q % 16 - 1) ≡ own_at work k
+  pub some_own : (q j : ℕ) → q ≡ tournament_in (fields_at work k) → (1 ≤ q % 16) × (j ≡ q % 16 - 1) → Chosen k j ≡ own_at work k
   unfolding own_at
-  some_own q e ne =
-      let z : q % 16 ≡ suc (q % 16 - 1) = omega (arith, ne) in
+  some_own q j e h =
+      let z : q % 16 ≡ suc j = omega (arith, h.0, h.1) in
       rw (← e) (sym (ap (slot_choice k) z))
 
   pub below_yes : (latest : ℕ) → k < latest → win_below work latest k ≡ win_at work k

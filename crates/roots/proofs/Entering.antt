@@ -1,13 +1,12 @@
 -- The tournament after a root has entered it. Assumes nothing.
-use Rattle.std.specs.Prelude.{None}
-use Rattle.std.proofs.Common.{ℕ, ◌+◌, ◌*◌, ◌<◌, ◌≤◌, ◌≡◌, refl, sym, ap, subst, ◌∙◌, ◌⊎◌, inl, inr, ⊎_elim, ◌≢◌, List, [], ◌∷◌, arith, get_or, length}
+use Rattle.std.proofs.Common.{None, ℕ, ◌+◌, ◌*◌, ◌<◌, ◌≤◌, ◌≡◌, refl, sym, ap, subst, ◌∙◌, ◌⊎◌, inl, inr, ⊎_elim, ◌≢◌, List, [], ◌∷◌, arith, get_or, length}
+use Rattle.std.proofs.lemmas.Bool.{cases_lt}
 use mathlib.Core.List.Memᴰ.{cases_cons}
 use mathlib.Core.List.Memᴰ.{head as here}
 use mathlib.Core.List.Memᴰ.{not-nil}
 use mathlib.Core.List.Memᴰ.{tail as there}
 use mathlib.Core.List.{Memᴰ as Mem}
 use native.Mathlib.Decide.{ℕ_discrete}
-use Rattle.prices.proofs.Growth.{lower}
 use Rattle.meaning.specs.Sorted.{Sorted}
 use Rattle.records.specs.Record.{fields_at}
 use Rattle.roots.specs.Slots.{PartsHold, RootMade}
@@ -30,7 +29,7 @@ module _ (m : ℕ) (after final : List ℕ) (latest made n : ℕ) (old : List �
   other k l (no e) (yes z) = inr (subst (λ (x : ℕ). Mem x (made ∷ old)) (sym z) member)
   other k l (no e) (no z) = ⊎_elim
       (λ g. ⊎_elim (λ q. inl (E.old k g z e ∙ q)) (λ q. inr (there q)) (none k g))
-      (λ g. inl (E.new k g (omega (arith, e)) z)) (lower k latest)
+      (λ g. inl (E.new k g (omega (arith, e)) z)) (cases_lt k latest)
 
   tournament_entered : Tournament m final (made + 1) (made ∷ old)
   tournament_entered =

@@ -1,12 +1,10 @@
 -- Slots of a record put anew, and the slots of a root filled one after another. Assumes nothing.
-use Rattle.std.proofs.Common.{ℕ, suc, ◌+◌, ◌*◌, ◌-◌, ◌<◌, ◌≤◌, ◌≡◌, refl, sym, ap, subst, ◌∙◌, ⊎_elim, ◌≢◌, List, [], ◌∷◌, arith, get_or, set, take, length, replicate, length-set, length-append, get_or-set_same, get_or-set_other, set-set, take_all}
-use Rattle.std.specs.Prelude.{Option, None, Some}
+use Rattle.std.proofs.Common.{ℕ, suc, ◌+◌, ◌*◌, ◌-◌, ◌<◌, ◌≤◌, ◌≡◌, refl, sym, ap, subst, ◌∙◌, ⊎_elim, ◌≢◌, List, [], ◌∷◌, arith, get_or, set, take, length, replicate, length-set, length-append, get_or-set_same, get_or-set_other, set-set, take_all, Option, None, Some}
+use Rattle.std.proofs.lemmas.Bool.{cases_lt}
+use Rattle.std.proofs.lemmas.List.{length-replicate, set-get_or}
 use native.Mathlib.Decide.{ℕ_discrete}
-use lib.ListN.{length-replicate}
-use lib.Seq.{set-get_or}
 use Rattle.deck.specs.Assignments.{sum_of}
 use Rattle.deck.specs.Calls.{task_list}
-use Rattle.prices.proofs.Growth.{lower}
 use Rattle.partition.specs.Parts.{slot_part, candidate}
 use Rattle.partition.proofs.Candidates.{Candidate as CandidateIs, candidate_meant}
 use Rattle.candidates.specs.Candidates.{candidate_for}
@@ -36,7 +34,7 @@ module _ (fs : List (List ℕ)) (long : length fs ≡ 10) (all : length (get_or 
   pub slot_other : length ys ≡ 14 → (i : ℕ) → i ≢ j → slot_in (with_slot fs j ys) i ≡ slot_in fs i
   slot_other e i ne = rw slots_set (⊎_elim
       (λ l. part_behind (14 * i) 14 (14 * j) 14 ys (get_or fs 6 []) (omega arith) (omega arith))
-      (λ l. part_before (14 * i) 14 (14 * j) 14 ys (get_or fs 6 []) e (omega (arith, ne)) (omega arith)) (lower i j))
+      (λ l. part_before (14 * i) 14 (14 * j) 14 ys (get_or fs 6 []) e (omega (arith, ne)) (omega arith)) (cases_lt i j))
 
   pub field_other : (f : ℕ) → f ≢ 6 → get_or (with_slot fs j ys) f [] ≡ get_or fs f []
   field_other f ne = get_or-set_other fs 6 f (put (14 * j) 14 ys (get_or fs 6 [])) [] ne

@@ -1,15 +1,15 @@
 -- A root made of the next assignment: its slots and those that were left hold what remains. Assumes nothing.
-use Rattle.std.proofs.Common.{ℕ, ◌+◌, ◌*◌, ◌-◌, ◌<◌, ◌≤◌, ◌≡◌, refl, sym, ap, subst, ◌∙◌, ⊎_elim, Bool, true, false, cond, List, [], ◌∷◌, ◌++◌, arith, set, take, length, replicate, get_or-set_same, get_or-set_other, take_at, get_or-take, eqb, eq-eqb, ne_eqb}
+use Rattle.std.proofs.Common.{ℕ, ◌+◌, ◌*◌, ◌-◌, ◌<◌, ◌≤◌, ◌≡◌, refl, sym, ap, subst, ◌∙◌, ⊎_elim, Bool, true, false, cond, List, [], ◌∷◌, ◌++◌, arith, set, take, length, replicate, get_or-set_same, get_or-set_other, take_at, get_or-take, eqb, eq-eqb, ne_eqb, Option, None, Some}
+use Rattle.std.proofs.lemmas.Bool.{cases_lt}
 use mathlib.Core.List.Memᴰ.{append_cases as cases_append}
 use mathlib.Core.List.Memᴰ.{append_left as in_left}
 use mathlib.Core.List.Memᴰ.{append_right as in_right}
 use mathlib.Core.List.Memᴰ.{cases_cons}
 use mathlib.Core.List.Memᴰ.{not-nil}
 use mathlib.Core.List.{Memᴰ as Mem}
-use Rattle.std.specs.Prelude.{Option, None, Some}
 use native.Mathlib.Decide.{ℕ_discrete}
-use lib.ListN.{get_or-append}
-use lib.Seq.{set_out}
+use Rattle.std.proofs.lemmas.List.{get_or_append_left}
+use Rattle.std.proofs.Math.Seq.{set_out}
 use Rattle.deck.specs.Lists.{count_from}
 use Rattle.deck.specs.Assignments.{assignments_in_order, least_assignment}
 use Rattle.deck.specs.Calls.{task_list}
@@ -17,7 +17,6 @@ use Rattle.meaning.specs.Meaning.{◌at◌, Assignment}
 use Rattle.meaning.specs.Sorted.{Sorted}
 use Rattle.meaning.proofs.Lists.{mem_count_from, sorted_append}
 use Rattle.meaning.proofs.Assignments.{least_assignment_meant}
-use Rattle.prices.proofs.Growth.{lower}
 use Rattle.partition.specs.Parts.{none_closed, slot_part, Slot, slot_with, slots_of, candidate, Apart, Holds, Best}
 use Rattle.partition.proofs.Candidates.{Candidate, candidate_meant}
 use Rattle.partition.proofs.Splits.{none_closed_lem}
@@ -67,7 +66,7 @@ take_list : (m : ℕ) (a : List ℕ) → length a ≡ m → take m (task_list a)
 take_list m a e = take_at a (replicate (12 - length a) 255) m e
 
 list_low : (m : ℕ) (a : List ℕ) → m ≤ 12 → Assignment m a → (i : ℕ) → i < m → task_list a at i < 12
-list_low m a small h i l = omega (arith, get_or-append a (replicate (12 - length a) 255) 0 i (omega (arith, h.as_many)), h.tasks i l)
+list_low m a small h i l = omega (arith, get_or_append_left a (replicate (12 - length a) 255) 0 i (omega (arith, h.as_many)), h.tasks i l)
 
 pub list_kept : (m : ℕ) (a closed : List ℕ) → m ≤ 12 → Assignment m a → ((i : ℕ) → closed at i < 256) → PartKept m (task_list a) closed
 list_kept m a closed small h shut = record { low = list_low m a small h; tasks_small = list_bytes m a small h; closed_small = shut }
@@ -186,7 +185,7 @@ module _ (m : ℕ) (table before mid : List ℕ) (latest made n j : ℕ) (rest :
       one : (xs : List ℕ) → ((x : ℕ) → xs at x < 256) → Dec (i ≡ k) → set xs k 1 at i < 256
       one xs h (yes e) = ⊎_elim
           (λ l. rw (e, get_or-set_same xs k 1 0 l) (omega arith))
-          (λ l. subst (λ (y : List ℕ). y at i < 256) (sym (set_out xs k 1 l)) (h i)) (lower k (length xs))
+          (λ l. subst (λ (y : List ℕ). y at i < 256) (sym (set_out xs k 1 l)) (h i)) (cases_lt k (length xs))
       one xs h (no e) = rw (get_or-set_other xs k i 1 0 e) (h i)
 
       go : Dec (i ≡ k) → s.part.closed at i < 256

@@ -1,8 +1,8 @@
 -- The choices at a number of the tournament, and what they are read from. Assumes nothing.
 use Rattle.std.specs.Prelude.{Some, None, Option}
 use Rattle.std.proofs.Common.{ℕ, ◌+◌, ◌*◌, ◌-◌, ◌<◌, ◌≤◌, ◌≡◌, refl, sym, ap, subst, ◌∙◌, ⊎_elim, Bool, true, false, cond, List, [], ◌∷◌, arith, get_or, eqb}
+use Rattle.std.proofs.lemmas.Bool.{cases_lt}
 use Rattle.deck.specs.Lists.{count_from}
-use Rattle.prices.proofs.Growth.{lower}
 use Rattle.records.specs.Record.{fields_at, row_in, flag_in, sum_in, slot_tasks_in}
 use Rattle.roots.specs.Choices.{Chosen, slot_before, first_of, better_of, over_slots, Inside}
 use Rattle.roots.specs.Tournament.{win_at, own_at, win_below, first_choice, first_here, best_own, Below, Of, Named, Played, OnlyTournament}
@@ -35,7 +35,7 @@ module _ (work : List ℕ) (latest : ℕ) (N : Named work latest) where
   pub below_win : (k : ℕ) → Below latest (win_below work latest k)
   below_win k = ⊎_elim
       (λ l. subst (Below latest) (sym (below_yes work k latest l)) (N.wins k l))
-      (λ l. subst (Below latest) (sym (below_no work k latest l)) tt) (lower k latest)
+      (λ l. subst (Below latest) (sym (below_no work k latest l)) tt) (cases_lt k latest)
 
   pub below_own : (k : ℕ) → k < latest → Below latest (own_at work k)
   below_own k l = of_below k latest (own_at work k) l (N.owns k l)
@@ -102,10 +102,10 @@ module _ (before after : List ℕ) (latest to : ℕ) (more : latest ≤ to) (ord
   win_same : (k : ℕ) → win_below after to k ≡ win_below before latest k
   win_same k = ⊎_elim
       (λ l. below_yes after k to (omega arith) ∙ wins k l ∙ sym (below_yes before k latest l))
-      (λ l. past l ∙ sym (below_no before k latest l)) (lower k latest)
+      (λ l. past l ∙ sym (below_no before k latest l)) (cases_lt k latest)
     where
       past : latest ≤ k → win_below after to k ≡ None
-      past l = ⊎_elim (λ g. below_yes after k to g ∙ no_win k l g) (λ g. below_no after k to g) (lower k to)
+      past l = ⊎_elim (λ g. below_yes after k to g ∙ no_win k l g) (λ g. below_no after k to g) (cases_lt k to)
 
   none_here : (k : ℕ) → latest ≤ k → k < to → first_here after to k ≡ None
   unfolding first_here
@@ -119,14 +119,14 @@ module _ (before after : List ℕ) (latest to : ℕ) (more : latest ≤ to) (ord
             record {
               wins = λ k g. ⊎_elim
                   (λ l. subst (Below to) (sym (wins k l)) (below_wider latest to (win_at before k) more (P.named.wins k l)))
-                  (λ l. subst (Below to) (sym (no_win k l g)) tt) (lower k latest);
+                  (λ l. subst (Below to) (sym (no_win k l g)) tt) (cases_lt k latest);
               owns = λ k g. ⊎_elim
                   (λ l. subst (Of k) (sym (owns k l)) (P.named.owns k l))
-                  (λ l. subst (Of k) (sym (no_own k l g)) tt) (lower k latest);
+                  (λ l. subst (Of k) (sym (no_own k l g)) tt) (cases_lt k latest);
             };
         first = λ k g. ⊎_elim
             (λ l. wins k l ∙ P.first k l ∙ sym (here_same before after latest order to k P.named l (owns k l) (win_same (2 * k + 1)) (win_same (2 * k + 2))))
-            (λ l. no_win k l g ∙ sym (none_here k l g)) (lower k latest);
+            (λ l. no_win k l g ∙ sym (none_here k l g)) (cases_lt k latest);
       }
 
 -- THE FIRST OF THE SLOTS OF A ROOT is one of its own, and is read from its record alone

@@ -1,8 +1,8 @@
 -- The tournament played again from a number up, its own choice found anew, and a root that enters. Assumes nothing.
 use Rattle.std.specs.Prelude.{None, Option}
 use Rattle.std.proofs.Common.{ℕ, ◌+◌, ◌*◌, ◌-◌, ◌<◌, ◌≤◌, ◌/◌, ◌≡◌, refl, sym, subst, ◌∙◌, ⊎_elim, ◌≢◌, List, arith}
+use Rattle.std.proofs.lemmas.Bool.{cases_lt}
 use native.Mathlib.Decide.{ℕ_discrete}
-use Rattle.prices.proofs.Growth.{lower}
 use Rattle.roots.specs.Tournament.{win_at, own_at, win_below, first_here, best_own, Below, Of, Named, PlayedBut, Played, OnlyTournament, WordPut, Replayed, Refreshed, Emptied, Entered}
 use Rattle.roots.specs.declared.Choice.{Choice}
 use Rattle.roots.proofs.Codes.{below_yes, below_no}
@@ -27,7 +27,7 @@ module _ (before after : List ℕ) (latest k : ℕ) (l : k < latest) (win own : 
   put_below : (i : ℕ) → i ≢ k → win_below after latest i ≡ win_below before latest i
   put_below i ne = ⊎_elim
       (λ g. below_yes after i latest g ∙ u.wins i ne ∙ sym (below_yes before i latest g))
-      (λ g. below_no after i latest g ∙ sym (below_no before i latest g)) (lower i latest)
+      (λ g. below_no after i latest g ∙ sym (below_no before i latest g)) (cases_lt i latest)
 
   -- the first choice at a number that k is not under
   put_here : (i : ℕ) → i < latest → own_at after i ≡ own_at before i → 2 * i + 1 ≢ k → 2 * i + 2 ≢ k → first_here after latest i ≡ first_here before latest i

@@ -1,6 +1,6 @@
 -- The choice at number 0 of the tournament is one whose assignment is no later than those of the other slots. Assumes nothing.
-use Rattle.std.specs.Prelude.{Some, None, Option}
-use Rattle.std.proofs.Common.{ℕ, zero, suc, ◌+◌, ◌*◌, ◌-◌, ◌<◌, ◌≤◌, ◌/◌, ◌≡◌, refl, sym, ap, subst, ◌∙◌, ◌⊎◌, inl, inr, ⊎_elim, List, [], ◌∷◌, arith, take}
+use Rattle.std.proofs.Common.{Some, None, Option, ℕ, zero, suc, ◌+◌, ◌*◌, ◌-◌, ◌<◌, ◌≤◌, ◌/◌, ◌≡◌, refl, sym, ap, subst, ◌∙◌, ◌⊎◌, inl, inr, ⊎_elim, List, [], ◌∷◌, arith, take}
+use Rattle.std.proofs.lemmas.Bool.{cases_lt}
 use mathlib.Core.List.Memᴰ.{append_cases as cases_append}
 use mathlib.Core.List.Memᴰ.{eq_of_singleton as only}
 use mathlib.Core.List.Memᴰ.{head as here}
@@ -12,7 +12,6 @@ use Rattle.deck.specs.Lists.{count_from, each}
 use Rattle.meaning.specs.Meaning.{Less}
 use Rattle.meaning.proofs.Lists.{mem_count_from}
 use Rattle.prices.proofs.First.{less_trans}
-use Rattle.prices.proofs.Growth.{lower}
 use Rattle.partition.specs.Parts.{Slot}
 use Rattle.records.specs.Record.{fields_at, row_in, slot_tasks_in}
 use Rattle.roots.specs.Slots.{slot_of, root_slots, slots_at, PartsHold}
@@ -121,7 +120,7 @@ module _ (m : ℕ) (work roots : List ℕ) where
     -- each choice is one of the slots, from the last number down
     win_live : (d k : ℕ) → latest ≤ k + d → LiveChoice (win_below work latest k)
     win_live zero k h = subst LiveChoice (sym (below_no work k latest (omega arith))) tt
-    win_live (suc d) k h = go (lower k latest) (win_live d (2 * k + 1) (omega arith)) (win_live d (2 * k + 2) (omega arith))
+    win_live (suc d) k h = go (cases_lt k latest) (win_live d (2 * k + 1) (omega arith)) (win_live d (2 * k + 2) (omega arith))
       where
         here_live : k < latest → LiveChoice (win_below work latest (2 * k + 1)) → LiveChoice (win_below work latest (2 * k + 2)) → LiveChoice (first_here work latest k)
         here_live l a b = unfold first_here in

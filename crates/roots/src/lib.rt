@@ -1,6 +1,8 @@
 // The assignments that remain, in the records of the roots: Murty's parts, each in a slot of the root that it was split from, with
 // its first assignment. The next assignment in order is the first of these; a tournament tree over the numbers of the nodes says
 // which slot has it.
+// Kept: the lent words, numbers of nodes, and what bounds them in each contract (`HasRecord`, `Inside`, `Below`, 512 latest, 4097): the
+// words are lent to each call as in `records`, and a struct over them would have to ensure the same words afterwards.
 #![tactic(auto)]
 
 ghost use Rattle.std.specs.Prelude.{◌≡◌, List, ℕ, ◌+◌, ◌*◌, ◌<◌, ◌≤◌, length, Some, None};
@@ -19,6 +21,7 @@ use records::Record;
 use tables::Part;
 
 // Slot j of root n.
+// Kept: two numbers, as a stretch of the sheet has; they are no stretch.
 #[derive(Clone, Copy, Debug, PartialEq, Eq)]
 pub struct Choice {
     pub n: usize,
@@ -28,6 +31,7 @@ pub struct Choice {
 // THE CHOICE
 
 // Whether slot a comes before slot b: by sum, then by list.
+// Kept: the candidates that stand in the slots are compared, whose order is derived; a choice has no order without the words.
 fn slot_before(work: &[u32], a: Choice, b: Choice) -> bool
     requires { Inside (length work.now) (Some a) × Inside (length work.now) (Some b) }
     ensures { result ≡ slot_before (fields_at work.now a.n) a.j (fields_at work.now b.n) b.j }
@@ -75,7 +79,8 @@ fn best_in(work: &[u32], m: usize, n: usize) -> Option<Choice>
 
 // THE TOURNAMENT: under number k are 2 k + 1 and 2 k + 2, and a number's word has the first of its own slots and of those under it.
 
-// A choice as a number. Kept: two numbers in one word of the record, which is lent in fixed memory.
+// A choice as a number.
+// Kept: two numbers in one word of the record, which is lent in fixed memory.
 fn code_of(b: Option<Choice>) -> usize
     requires { Below 4097 b }
     ensures { (result ≡ code_of b) × (result < 65560) }
@@ -89,10 +94,7 @@ fn code_of(b: Option<Choice>) -> usize
 fn choice_of(code: usize) -> Option<Choice>
     ensures { result ≡ choice_of code }
 {
-    if code == 0 {
-        return None;
-    }
-    let c = code - 1;
+    let c = code.checked_sub(1)?;
     Some(Choice {
         n: c / 16,
         j: c % 16,
@@ -116,10 +118,8 @@ fn own_of(work: &[u32], k: usize) -> Option<Choice>
     ensures { result ≡ own_at work.now k }
 {
     let own = Record::at(work, k).tournament() % 16;
-    if own == 0 {
-        return None;
-    }
-    Some(Choice { n: k, j: own - 1 })
+    let j = own.checked_sub(1)?;
+    Some(Choice { n: k, j })
 }
 
 // The choice among the slots of number k and those under it.
@@ -182,6 +182,7 @@ fn replay(work: &mut [u32], latest: usize, n: usize)
     ensures { Replayed work.old work.new latest }
 {
     let mut at = n;
+    // Kept: a way up a tree, which is no range; `successors` says what it gives by runs of its closure.
     while at != 0 {
         settle(work, latest, at);
         at = (at - 1) / 2;
@@ -221,7 +222,7 @@ fn enter(work: &mut [u32], m: usize, latest: usize, made: usize, n: usize)
     refresh(work, m, made + 1, made);
 }
 
-// The slot whose assignment comes first. `latest` is the number of the latest root + 1, or 0 without a root.
+// The slot whose assignment comes first, by the tournament of the numbers below `latest`.
 pub fn next_slot(work: &[u32], m: usize, latest: usize) -> Option<Choice>
     requires { 512 * latest ≤ length work.now }
     ensures { FirstSlot m work.now latest result }

@@ -9,15 +9,12 @@ use Rattle.deck.specs.declared.cause.Cause.{Cause}
 use Rattle.deck.specs.declared.cause.Cause.TheVariants.{BadHeader, BadDirectory}
 use Rattle.deck.specs.Calls.{search_cause, search_answer_for, search_output_for, search_answer, search_output}
 use Rattle.deck.specs.Listing.{listing_for, listing}
-use Rattle.meaning.proofs.Tests.{Says, says_eqb, says_leb, says_and}
+use Rattle.meaning.proofs.Tests.{says_itself, says_eqb, says_leb, says_and}
 use Rattle.meaning.proofs.ListTests.{says_all_at}
 use Rattle.meaning.proofs.Accepted.{header_says, directory_says}
 use Rattle.meaning.proofs.Dark.{cause_with}
 use Rattle.sheet_parts.proofs.Scans.{below_at, length_below}
 use Rattle.round_text.specs.Longest.{longest}
-
-says_itself : {b : Bool} → Says b (T b)
-says_itself = record { fact = λ t. t; test = λ t. t }
 
 -- NO ACCEPTED SHEET IS LONGER
 goals_most : (n : ℕ) → T (goals_size n) → n ≤ 16

@@ -10,7 +10,7 @@ use Rattle.deck.specs.Sheet.{Sheet, area, grid_byte, carrier, task, start_of, go
 use Rattle.deck.specs.Calls.{workspace_for}
 use Rattle.deck.specs.declared.Carrier.{Carrier}
 use Rattle.deck.specs.declared.Task.{Task}
-use Rattle.meaning.proofs.Tests.{Says, says_eqb, says_leb, says_and, says_not}
+use Rattle.meaning.proofs.Tests.{Says, says_itself, says_eqb, says_leb, says_and, says_not}
 use Rattle.meaning.proofs.ListTests.{says_all_at, says_distinct}
 use Rattle.meaning.proofs.Accepted.{Inside, accepted, accepted_count, accepted_horizon, accepted_inside, accepted_starts, header_says, directory_says}
 use Rattle.sheet_parts.proofs.Words.{length_words}
@@ -19,9 +19,6 @@ use Rattle.sheet_parts.proofs.Tasks.{goals_there, each_task_at}
 pub use Rattle.sheet_parts.proofs.Tasks.{tasks_length, no_goals}
 pub use Rattle.sheet_parts.proofs.Words.{last_of}
 use Rattle.sheet_parts.proofs.Scans.{below_at, length_below, greatest_at_most, at_most_greatest}
-
-says_itself : {b : Bool} → Says b (T b)
-says_itself = record { fact = λ t. t; test = λ t. t }
 
 -- the test of all elements, at an index
 all_at : {A : Type 0} (f : A → Bool) (l : List A) (d : A) → T (all f l) → (k : ℕ) → k < length l → T (f (get_or l k d))

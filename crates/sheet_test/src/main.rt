@@ -7,9 +7,8 @@
 ghost use Rattle.std.specs.Prelude.{◌<◌, OnSome, length};
 
 use deck::{Carrier, MOST_PAIRS, Reading, Stretch, Task};
-use std::fmt::Display;
 use std::io;
-use testing::Stored;
+use testing::{Spaced, Stored};
 
 // What stands in the line of a refused sheet, which has no reading.
 const NO_READING: Reading = Reading {
@@ -21,76 +20,57 @@ const NO_READING: Reading = Reading {
     pairs: [Stretch { offset: 0, size: 0 }; MOST_PAIRS],
 };
 
-fn put(rt: &impl Print, x: impl Display + Drop) -> io::Result<()> {
-    print!(rt; " {x}")
-}
-
-// The start of a further part of the line.
-fn part(rt: &impl Print) -> io::Result<()> {
-    print!(rt; " /")
-}
-
 fn header(rt: &impl Print, r: &Reading) -> io::Result<()> {
-    for x in [r.width, r.height, r.count, r.horizon, r.limit] {
-        put(rt, x)?;
-    }
-    Ok(())
+    let values = [r.width, r.height, r.count, r.horizon, r.limit];
+    rt.print(Spaced(&values))
 }
 
 // All pairs that there can be: those past the last are zeros.
+// Kept: `print!` in a loop, here and below: how many numbers a line has the sheet says, and they are no slice.
 fn pairs(rt: &impl Print, r: &Reading) -> io::Result<()> {
-    part(rt)?;
+    print!(rt; " /")?;
     for pair in r.pairs {
-        put(rt, pair.offset)?;
-        put(rt, pair.size)?;
+        print!(rt; " {} {}", pair.offset, pair.size)?;
     }
     Ok(())
 }
 
 fn starts(rt: &impl Print, s: &[u8], m: usize) -> io::Result<()> {
-    part(rt)?;
-    for i in 0..m {
-        put(rt, sheet::start(s, Carrier(i)))?;
+    print!(rt; " /")?;
+    for i in (0..m).map(Carrier) {
+        print!(rt; " {}", sheet::start(s, i))?;
     }
     Ok(())
 }
 
-fn bytes(rt: &impl Print, p: &[u8]) -> io::Result<()> {
-    part(rt)?;
-    for x in p {
-        put(rt, *x)?;
-    }
-    Ok(())
-}
-
-// The goals, and the last of them once more.
+// The goals as bytes and as places, and the last place once more.
 fn goals(rt: &impl Print, s: &[u8], j: Task) -> io::Result<()> {
-    part(rt)?;
-    for k in 0..sheet::goal_count(s, j) {
-        put(rt, sheet::goal(s, j, k))?;
+    let bytes = Spaced(sheet::task_goals(s, j));
+    print!(rt; " /{bytes} /")?;
+    for goal in (0..sheet::goal_count(s, j)).map(|k| sheet::goal(s, j, k)) {
+        print!(rt; " {goal}")?;
     }
-    put(rt, sheet::last_goal(s, j))
+    print!(rt; " {}", sheet::last_goal(s, j))
 }
 
-// Of each task, and of one more than there are, which has no goals: as bytes and as places.
+// Of each task, and of one more than there are, which has no goals.
 fn tasks(rt: &impl Print, s: &[u8], m: usize) -> io::Result<()> {
-    for j in 0..=m {
-        bytes(rt, sheet::task_goals(s, Task(j)))?;
-        goals(rt, s, Task(j))?;
+    for j in (0..=m).map(Task) {
+        goals(rt, s, j)?;
     }
     Ok(())
+}
+
+// How many of 1024 places have the grid byte b.
+fn marked(s: &[u8], b: u8) -> usize {
+    (0..1024).filter(|v| sheet::grid_byte(s, *v) == b).count()
 }
 
 // How many of 1024 places are free; how many are blocked, and how many are lanes to the north, east, south and west.
 fn places(rt: &impl Print, s: &[u8]) -> io::Result<()> {
-    put(rt, (0..1024).filter(|v| sheet::is_free(s, *v)).count())?;
-    for b in 1..6 {
-        put(
-            rt,
-            (0..1024).filter(|v| sheet::grid_byte(s, *v) == b).count(),
-        )?;
-    }
-    Ok(())
+    let free = (0..1024).filter(|v| sheet::is_free(s, *v)).count();
+    let marks = [1, 2, 3, 4, 5].map(|b| marked(s, b));
+    print!(rt; " / {free}{}", Spaced(&marks))
 }
 
 fn accepted(rt: &impl Print, s: &[u8], r: &Reading) -> io::Result<()> {
@@ -98,15 +78,14 @@ fn accepted(rt: &impl Print, s: &[u8], r: &Reading) -> io::Result<()> {
     pairs(rt, r)?;
     starts(rt, s, r.count)?;
     tasks(rt, s, r.count)?;
-    part(rt)?;
     places(rt, s)?;
-    put(rt, sheet::workspace(s))
+    print!(rt; " {}", sheet::workspace(s))
 }
 
 fn refused(rt: &impl Print, s: &[u8]) -> io::Result<()> {
     header(rt, &NO_READING)?;
     pairs(rt, &NO_READING)?;
-    bytes(rt, sheet::task_goals(s, Task(0)))
+    print!(rt; " /{}", Spaced(sheet::task_goals(s, Task(0))))
 }
 
 fn line(rt: &impl Print, s: &[u8]) -> io::Result<()> {

@@ -1,10 +1,11 @@
 // What the test programs share: the values of a stored input one after the other, and lines of numbers.
 #![tactic(auto)]
 
-ghost use Rattle.std.specs.Prelude.{◌≡◌, ◌≢◌, ℕ, ◌-◌, ◌/◌, ◌≤◌, ◌<◌, ◌∷◌, ◌++◌, IfSome, get_or, length, take};
+ghost use Rattle.std.specs.Prelude.{◌≡◌, ◌≢◌, ◌↔◌, [], ℕ, ◌-◌, ◌/◌, ◌≤◌, ◌<◌, ◌∷◌, ◌++◌, IfSome, get_or, length, take};
 ghost use Rattle.std.specs.Int.{from_le_bytes, w16, w32};
 
-use std::io;
+use std::fmt;
+use std::fmt::Display;
 
 // A stored input: what is left of it.
 #[derive(Drop)]
@@ -31,12 +32,21 @@ impl<'a> Stored<'a> {
         Some(*byte)
     }
 
+    // The next N bytes as an array.
+    pub fn array<const N: usize>(&mut self) -> Option<&'a [u8; N]>
+        ensures { IfSome result (λ bytes. (length bytes.now ≡ N) × (self.old.rest.now ≡ bytes.now ++ self.new.rest.now)) }
+    {
+        let (bytes, rest) = self.rest.split_first_chunk::<N>()?;
+        self.rest = rest;
+        Some(bytes)
+    }
+
     // The next two-byte value, low byte first.
+    // Kept: `double_word` beside it, of the same form: one function for both would need a trait over the two types.
     pub fn word(&mut self) -> Option<u16>
         ensures { IfSome result (λ x. (x ≡ from_le_bytes w16 (take 2 self.old.rest.now)) × (self.old.rest.now ≡ take 2 self.old.rest.now ++ self.new.rest.now) × (2 ≤ length self.old.rest.now)) }
     {
-        let (bytes, rest) = self.rest.split_first_chunk::<2>()?;
-        self.rest = rest;
+        let bytes = self.array::<2>()?;
         Some(u16::from_le_bytes(*bytes))
     }
 
@@ -44,8 +54,7 @@ impl<'a> Stored<'a> {
     pub fn double_word(&mut self) -> Option<u32>
         ensures { IfSome result (λ x. (x ≡ from_le_bytes w32 (take 4 self.old.rest.now)) × (self.old.rest.now ≡ take 4 self.old.rest.now ++ self.new.rest.now) × (4 ≤ length self.old.rest.now)) }
     {
-        let (bytes, rest) = self.rest.split_first_chunk::<4>()?;
-        self.rest = rest;
+        let bytes = self.array::<4>()?;
         Some(u32::from_le_bytes(*bytes))
     }
 }
@@ -61,15 +70,6 @@ pub fn read_words<'a>(bytes: &[u8], space: &'a mut [u16]) -> Option<&'a [u16]>
     Some(words)
 }
 
-// One line of numbers.
-pub fn print_line(rt: &impl Print, numbers: &[usize]) -> io::Result<()> {
-    for (k, n) in numbers.iter().enumerate() {
-        let gap = if k == 0 { "" } else { " " };
-        print!(rt; "{gap}{n}")?;
-    }
-    println!(rt; "")
-}
-
 // The words up to the last that is not the filler: how far a lent output was written.
 pub fn changed<'a>(words: &'a [u16], filler: u16) -> &'a [u16]
     ensures start { result.now ≡ take (length result.now) words.now }
@@ -80,22 +80,40 @@ pub fn changed<'a>(words: &'a [u16], filler: u16) -> &'a [u16]
     &words[..last.map_or(0, |k| k + 1)]
 }
 
-// The changed words of an output, after a colon where there are any, to the end of the line.
-pub fn print_output(rt: &impl Print, words: &[u16], filler: u16) -> io::Result<()> {
-    let changed = changed(words, filler);
-    if !changed.is_empty() {
-        print!(rt; ":")?;
+// Numbers, each after a space.
+#[derive(Drop)]
+pub struct Spaced<'a, T>(pub &'a [T]);
+
+impl<T: Display> Display for Spaced<'_, T> {
+    fn fmt<W: fmt::Write>(&self, f: &mut fmt::Formatter<W>) -> fmt::Result {
+        for number in self.0 {
+            write!(f, " {number}")?;
+        }
+        Ok(())
     }
-    for word in changed {
-        print!(rt; " {word}")?;
-    }
-    println!(rt; "")
 }
 
-// Says so where a lent workspace is not as it was filled.
-pub fn print_workspace_change(rt: &impl Print, work: &[u32], filler: u32) -> io::Result<()> {
-    if work.iter().all(|word| *word == filler) {
-        return Ok(());
+// Words of an output after a colon, or nothing where there are none.
+#[derive(Drop)]
+pub struct Output<'a>(pub &'a [u16]);
+
+impl Display for Output<'_> {
+    fn fmt<W: fmt::Write>(&self, f: &mut fmt::Formatter<W>) -> fmt::Result {
+        if self.0.is_empty() {
+            return Ok(());
+        }
+        let words = Spaced(self.0);
+        write!(f, ":{words}")
     }
-    print!(rt; " workspace changed")
+}
+
+// What a line says of a lent workspace that was to stay as it was filled.
+pub fn workspace_change(work: &[u32], filler: u32) -> &'static str
+    ensures { (result.now ≡ []) ↔ ((k : ℕ) → k < length work.now → get_or work.now k 0 ≡ filler) }
+{
+    if work.iter().all(|word| *word == filler) {
+        ""
+    } else {
+        " workspace changed"
+    }
 }

@@ -2,16 +2,7 @@
 use Prim.Native.Nat.{ℕ, zero, suc, ◌+◌, ◌-◌, ◌≤◌, ◌<◌}
 use Rattle.std.specs.Prelude.{Option, None, Some}
 use Rattle.std.specs.List.{find, HoldsAt, AllWithin}
-use mathlib.Core.Path.{◌≡◌, refl, sym, ap, ◌∙◌, subst}
-use mathlib.Core.Logic.{⊎_elim, ◌≢◌}
-use native.Mathlib.Nat.{eq-or-lt_of_le}
-use mathlib.Core.Bool.{Bool, true, false, cond, ◌&&◌}
-use mathlib.Core.List.{List, [], ◌∷◌}
-use native.Mathlib.Omega.{arith}
-use lib.ListN.{length, get_or, take, drop, length-drop}
-use lib.Seq.{get_or-drop, take_all}
-use lib.Dec.{T, ltb}
-use borrow.Author.Tests.{eq-eqb, ne_eqb}
+use Rattle.std.proofs.Common.{◌≡◌, refl, sym, ap, ◌∙◌, subst, ⊎_elim, ◌≢◌, eq-or-lt_of_le, Bool, true, false, cond, ◌&&◌, List, [], ◌∷◌, arith, length, get_or, take, drop, length-drop, get_or-drop, take_all, T, ltb, eq-eqb, ne_eqb}
 use Rattle.deck.specs.Sheet.{Sheet, free, start_of, goals_of}
 use Rattle.deck.specs.declared.Carrier.{Carrier}
 use Rattle.deck.specs.declared.Task.{Task}

@@ -1,4 +1,5 @@
 -- The path that is traced, place by place, and the words that are written. Assumes nothing.
+use Rattle.std.proofs.lemmas.Bool.{cases_lt}
 use Prim.Native.Nat.{ℕ, zero, suc, ◌+◌, ◌-◌, ◌≤◌, ◌<◌}
 use mathlib.Core.Path.{◌≡◌, refl, sym, ap, ◌∙◌, subst}
 use mathlib.Core.Logic.{⊎_elim}
@@ -18,7 +19,6 @@ use Rattle.kernel.specs.Layers.{first_of}
 use Rattle.kernel.specs.Labels.{first_label, raised}
 use Rattle.kernel.specs.Near.{near}
 use Rattle.kernel.specs.Kernel.{onward, follow, path_at, OnTime}
-use Rattle.kernel.proofs.Choice.{lt_or_ge}
 use Rattle.kernel.proofs.Follow.{next_on_time}
 use Rattle.layers.specs.Fill.{Filled}
 
@@ -130,16 +130,16 @@ module _ (d : Sheet) (i : Carrier) (j : Task) (cs : List Constraint) (end : ℕ)
       early : (p : ℕ) → p ≤ end → get_or three p 0 ≡ get_or whole p 0
       early p a = f.below p (omega arith) ∙ ⊎_elim
           (λ q. tr.written.inside p q (omega arith))
-          (λ q. let z : p ≡ 0 = omega arith in rw z first_place) (lt_or_ge 0 p)
+          (λ q. let z : p ≡ 0 = omega arith in rw z first_place) (cases_lt 0 p)
 
       at : (p : ℕ) → p < length three → get_or three p 0 ≡ get_or (overwrite whole out) p 0
       at p b = ⊎_elim
           (λ h.
-          ⊎_elim (λ q. early p (omega arith)) (λ q. f.inside p (omega arith) (omega arith) ∙ eg ∙ sym (late p (omega arith) h)) (lt_or_ge p (end + 1))
+          ⊎_elim (λ q. early p (omega arith)) (λ q. f.inside p (omega arith) (omega arith) ∙ eg ∙ sym (late p (omega arith) h)) (cases_lt p (end + 1))
           ∙ sym (get_or-append whole (drop (length whole) out) 0 p (omega (arith, long))))
           (λ h.
           let z : p ≡ length whole + (p - length whole) = omega (arith, long) in
           f.above p (omega arith) ∙ tr.written.above p (omega arith) ∙ (ap (λ (y : List ℕ). get_or y p 0) e1 ∙ get_or-set_other out 0 p w 0 (omega arith))
           ∙ subst (λ (y : ℕ). get_or out y 0 ≡ get_or (overwrite whole out) y 0) (sym z)
           (sym (get_or-append-add whole (drop (length whole) out) (p - length whole) 0 ∙ get_or-drop (length whole) out (p - length whole) 0)))
-          (lt_or_ge p (suc d.horizon))
+          (cases_lt p (suc d.horizon))

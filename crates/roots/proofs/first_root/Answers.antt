@@ -1,8 +1,5 @@
 -- `first_root` meets its contract. Assumes nothing.
-use native.Mathlib.Omega.{arith}
-use mathlib.Core.Path.{subst, sym}
-use mathlib.Core.List.{List}
-use Prim.Native.Nat.{ℕ}
+use Rattle.std.proofs.Common.{arith, subst, sym, List, ℕ}
 use Rattle.deck.specs.Assignments.{assignments_in_order}
 use Rattle.meaning.proofs.Assignments.{least_assignment_meant}
 use Rattle.prices.specs.Square.{copied}
