@@ -19,6 +19,7 @@ use Rattle.listing.specs.Listed.{Listable, listed, lines_of, Fits}
 use Rattle.listing.proofs.Decimals.{decimal_is}
 
 -- a number below 10 ^ k has at most k digits
+-- Kept: of document 01's decimals; the library's lemma is of its own
 decimal_size : (k n : ℕ) → 0 < k → n < 10 ^ k → n < 2 ^ 64 → length (decimal n) ≤ k
 decimal_size k n z h f = rw (← decimal_is n f) (length-decimal-le k n z h f)
 
