@@ -14,6 +14,8 @@ ghost use Rattle.listing.specs.Listed.{Listable, listed, Fits, lines_of, plan_li
 use deck::{Carrier, Cause, SearchAnswer, Task};
 use text::Text;
 
+// Kept: here and below the text is written piece by piece, and not by `write!`, as the struct `Text` says.
+
 // The line of one carrier: its number, its task, the finish of its path and the places.
 fn carrier(text: &mut Text, s: &[u8], i: Carrier, j: Task, path: &[u16])
     ensures { Appends text.old (carrier_line (read s.now) i.0 j.0 path.now) text.new }
@@ -42,6 +44,7 @@ fn carriers(text: &mut Text, s: &[u8], tasks: &[u8; 12], paths: &[u16])
     ensures { Appends text.old (lines_of s.now tasks.now paths.now) text.new }
 {
     let n = sheet::horizon(s) + 1;
+    // Kept: a number, which is the carrier's: no list is walked.
     for i in 0..sheet::count(s) {
         let j = tables::task_of(tasks, Carrier(i));
         carrier(text, s, Carrier(i), j, piece(paths, i * n, n));

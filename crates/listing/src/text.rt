@@ -4,8 +4,8 @@ ghost use Rattle.deck.specs.Listing.{decimal, spaced};
 
 use itoa::Buffer;
 
-// What does not fit is cut off. Kept: the text is not written by `write!`, whose clauses say what is written only where its result is
-// Ok, and never that it is.
+// What does not fit is cut off.
+// Kept: the text is not written by `write!`, whose clauses say what is written only where its result is Ok, and never that it is.
 #[derive(Drop)]
 pub(crate) struct Text<'a> {
     buffer: &'a mut [u8],

@@ -9,9 +9,11 @@ ghost use Rattle.numbers.specs.Small.{SmallNumber, SmallAssignment, SmallFound, 
 use deck::{Assignment, Cause, Collision, SearchAnswer};
 
 // A task list of 12 with no task.
-const NO_TASKS: [u8; 12] = [255; 12];
+// Kept: 255 is document 01's number of an entry that has no task.
+pub const NO_TASKS: [u8; 12] = [255; 12];
 
 // The number of a cause.
+// Kept: the C interface takes a cause as a number.
 pub fn number(cause: Cause) -> u32
     ensures { result ≡ number cause }
 {

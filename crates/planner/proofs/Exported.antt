@@ -1,13 +1,7 @@
 -- From what the calls ensure of their answers to what the exported calls leave in the words lent. Assumes nothing.
-use Prim.Native.Nat.{ℕ, zero, suc, ◌≤◌, ◌<◌}
-use mathlib.Core.Path.{◌≡◌, refl, sym, ap, subst, ◌∙◌}
-use mathlib.Core.Logic.{◌≢◌}
-use mathlib.Core.List.{List, [], ◌∷◌}
-use lib.ListN.{length}
-use lib.IntN.{ℤ}
-use borrow.Author.Tests.{lt-ltb, le-ltb}
+use Rattle.std.proofs.Common.{ℕ, zero, suc, ◌≤◌, ◌<◌, ◌≡◌, refl, sym, ap, subst, ◌∙◌, ◌≢◌, List, [], ◌∷◌, length, ℤ, lt-ltb, le-ltb, Option, None, Some, Result, Ok, Err}
+use Rattle.std.specs.Prelude.{⊤}
 use Rattle.deck.specs.declared.Stretch.{Stretch}
-use Rattle.std.specs.Prelude.{Option, None, Some, Result, Ok, Err, ⊤}
 use Rattle.std.proofs.lemmas.Result.{MatchResult-at_ok}
 use Rattle.meaning.proofs.Accepted.{cause_of_err}
 use Rattle.deck.specs.Sheet.{read, sheet_cause, task, count_of, pair_at, task_pair}

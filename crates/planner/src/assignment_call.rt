@@ -2,7 +2,7 @@
 ghost use Rattle.planner.specs.Exports.{AssignmentExport};
 
 use deck::Assignment;
-use numbers::assignment_numbers;
+use numbers::{NO_TASKS, assignment_numbers};
 
 // The numbers: cause, 1 if there is an assignment, its sum. All words of the three lists are written.
 #[unsafe(no_mangle)]
@@ -19,7 +19,7 @@ pub extern "C" fn planner_least_assignment(
     let answer = assignment::least_assignment(m, table);
     *numbers = assignment_numbers(answer);
     let Ok(Some(found)) = answer else {
-        *tasks = [255; 12];
+        *tasks = NO_TASKS;
         *rows = [0; 12];
         *columns = [0; 12];
         return;

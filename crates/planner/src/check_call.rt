@@ -6,6 +6,7 @@ ghost use Rattle.deck.specs.Numbers.{found_numbers};
 use numbers::found_numbers;
 
 // The numbers: cause, 1 for a plan, its flowtime.
+// Kept: the form of `planner_search`: the C interface has a function for each call.
 #[unsafe(no_mangle)]
 pub extern "C" fn planner_check_plan(
     s: &[u8],

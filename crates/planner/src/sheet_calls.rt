@@ -8,6 +8,7 @@ ghost use Rattle.planner.specs.Exports.{workspace_wanted, stretch_numbers};
 use numbers::number;
 
 // The first cause that lies in the sheet itself, 1 to 7, and 0 for an accepted sheet. A sheet of no bytes, the dark house, is one.
+// Kept: the C interface hands a cause back as a number.
 #[unsafe(no_mangle)]
 pub extern "C" fn planner_cause(s: &[u8]) -> u32
     ensures { result ≡ cause_number (sheet_cause s.now) }

@@ -1,7 +1,7 @@
 -- What making a root leaves of the nodes, and what other writes leave of the slots. Assumes nothing.
 use Rattle.std.proofs.Common.{ℕ, ◌+◌, ◌-◌, ◌<◌, ◌≡◌, refl, sym, ap, ◌∙◌, inl, inr, ⊎_elim, ◌≢◌, List, [], arith, get_or, set, length, get_or-set_other}
-use mathlib.Core.List.{Memᴰ as Mem}
 use native.Mathlib.Decide.{ℕ_discrete}
+use Rattle.deck.proofs.Members.{Mem}
 use Rattle.deck.specs.Lists.{count_from}
 use Rattle.deck.specs.Sheet.{Sheet}
 use Rattle.deck.specs.Calls.{task_list}

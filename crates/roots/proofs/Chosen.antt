@@ -2,13 +2,9 @@
 use Rattle.std.proofs.Common.{Some, None, Option, ℕ, ◌+◌, ◌-◌, ◌<◌, ◌≤◌, ◌≡◌, refl, sym, ap, subst, ◌∙◌, ◌⊎◌, inl, inr, ⊎_elim, Bool, true, false, cond, List, [], ◌∷◌, ◌++◌, append_assoc, append-nil, arith, length, take, replicate, length-append, get_or-append-add, eqb, eq-eqb, eqb-true}
 use Rattle.std.proofs.lemmas.List.{get_or-replicate, length-replicate, get_or_append_left}
 use Rattle.std.proofs.lemmas.Bool.{false≢true, cases_lt}
-use mathlib.Core.List.Memᴰ.{append_cases as cases_append}
-use mathlib.Core.List.Memᴰ.{eq_of_singleton as only}
-use mathlib.Core.List.Memᴰ.{head as here}
-use mathlib.Core.List.Memᴰ.{tail as there}
-use mathlib.Core.List.{Memᴰ as Mem}
 use native.Mathlib.Nat.{suc_inj}
 use Rattle.std.proofs.Math.ListN.{get_or-eq_default}
+use Rattle.deck.proofs.Members.{Mem, here, there, only, cases_append}
 use Rattle.deck.specs.Lists.{each}
 use Rattle.deck.specs.Assignments.{sum_of}
 use Rattle.deck.specs.Calls.{task_list}

@@ -1,12 +1,8 @@
 -- The tournament after a root has entered it. Assumes nothing.
 use Rattle.std.proofs.Common.{None, ℕ, ◌+◌, ◌*◌, ◌<◌, ◌≤◌, ◌≡◌, refl, sym, ap, subst, ◌∙◌, ◌⊎◌, inl, inr, ⊎_elim, ◌≢◌, List, [], ◌∷◌, arith, get_or, length}
 use Rattle.std.proofs.lemmas.Bool.{cases_lt}
-use mathlib.Core.List.Memᴰ.{cases_cons}
-use mathlib.Core.List.Memᴰ.{head as here}
-use mathlib.Core.List.Memᴰ.{not-nil}
-use mathlib.Core.List.Memᴰ.{tail as there}
-use mathlib.Core.List.{Memᴰ as Mem}
 use native.Mathlib.Decide.{ℕ_discrete}
+use Rattle.deck.proofs.Members.{Mem, here, there, not-nil, cases_cons}
 use Rattle.meaning.specs.Sorted.{Sorted}
 use Rattle.records.specs.Record.{fields_at}
 use Rattle.roots.specs.Slots.{PartsHold, RootMade}

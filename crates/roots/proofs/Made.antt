@@ -1,15 +1,10 @@
 -- A root made of the next assignment: its slots and those that were left hold what remains. Assumes nothing.
 use Rattle.std.proofs.Common.{ℕ, ◌+◌, ◌*◌, ◌-◌, ◌<◌, ◌≤◌, ◌≡◌, refl, sym, ap, subst, ◌∙◌, ⊎_elim, Bool, true, false, cond, List, [], ◌∷◌, ◌++◌, arith, set, take, length, replicate, get_or-set_same, get_or-set_other, take_at, get_or-take, eqb, eq-eqb, ne_eqb, Option, None, Some}
 use Rattle.std.proofs.lemmas.Bool.{cases_lt}
-use mathlib.Core.List.Memᴰ.{append_cases as cases_append}
-use mathlib.Core.List.Memᴰ.{append_left as in_left}
-use mathlib.Core.List.Memᴰ.{append_right as in_right}
-use mathlib.Core.List.Memᴰ.{cases_cons}
-use mathlib.Core.List.Memᴰ.{not-nil}
-use mathlib.Core.List.{Memᴰ as Mem}
 use native.Mathlib.Decide.{ℕ_discrete}
 use Rattle.std.proofs.lemmas.List.{get_or_append_left}
 use Rattle.std.proofs.Math.Seq.{set_out}
+use Rattle.deck.proofs.Members.{Mem, not-nil, cases_cons, in_left, in_right, cases_append}
 use Rattle.deck.specs.Lists.{count_from}
 use Rattle.deck.specs.Assignments.{assignments_in_order, least_assignment}
 use Rattle.deck.specs.Calls.{task_list}

@@ -1,11 +1,7 @@
 -- The slots after one of them is taken: the others. Assumes nothing.
 use Rattle.std.proofs.Common.{ℕ, ◌+◌, ◌*◌, ◌-◌, ◌<◌, ◌≤◌, ◌≡◌, refl, sym, ap, subst, ◌∙◌, ⊎_elim, ◌≢◌, List, [], ◌∷◌, ◌++◌, append_assoc, arith, get_or, set, take, length, length-set, get_or-set_same, get_or-set_other, eq-eqb, ne_eqb, Some}
-use mathlib.Core.List.Memᴰ.{cases_cons}
-use mathlib.Core.List.Memᴰ.{head as here}
-use mathlib.Core.List.Memᴰ.{not-nil}
-use mathlib.Core.List.Memᴰ.{tail as there}
-use mathlib.Core.List.{Memᴰ as Mem}
 use native.Mathlib.Decide.{ℕ_discrete}
+use Rattle.deck.proofs.Members.{Mem, here, there, not-nil, cases_cons}
 use Rattle.deck.specs.Lists.{count_from, each}
 use Rattle.meaning.specs.Sorted.{Sorted}
 use Rattle.meaning.proofs.Lists.{count_from_mem, sorted_count_from}

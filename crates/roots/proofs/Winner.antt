@@ -1,13 +1,8 @@
 -- The choice at number 0 of the tournament is one whose assignment is no later than those of the other slots. Assumes nothing.
 use Rattle.std.proofs.Common.{Some, None, Option, ℕ, zero, suc, ◌+◌, ◌*◌, ◌-◌, ◌<◌, ◌≤◌, ◌/◌, ◌≡◌, refl, sym, ap, subst, ◌∙◌, ◌⊎◌, inl, inr, ⊎_elim, List, [], ◌∷◌, arith, take}
 use Rattle.std.proofs.lemmas.Bool.{cases_lt}
-use mathlib.Core.List.Memᴰ.{append_cases as cases_append}
-use mathlib.Core.List.Memᴰ.{eq_of_singleton as only}
-use mathlib.Core.List.Memᴰ.{head as here}
-use mathlib.Core.List.Memᴰ.{not-nil}
-use mathlib.Core.List.Memᴰ.{tail as there}
-use mathlib.Core.List.{Memᴰ as Mem}
 use native.Mathlib.Decide.{ℕ_discrete}
+use Rattle.deck.proofs.Members.{Mem, here, there, not-nil, only, cases_append}
 use Rattle.deck.specs.Lists.{count_from, each}
 use Rattle.meaning.specs.Meaning.{Less}
 use Rattle.meaning.proofs.Lists.{mem_count_from}

@@ -1,8 +1,9 @@
 // The assignments that remain, in the records of the roots: Murty's parts, each in a slot of the root that it was split from, with
 // its first assignment. The next assignment in order is the first of these; a tournament tree over the numbers of the nodes says
 // which slot has it.
-// Kept: the lent words, numbers of nodes, and what bounds them in each contract (`HasRecord`, `Inside`, `Below`, 512 latest, 4097): the
-// words are lent to each call as in `records`, and a struct over them would have to ensure the same words afterwards.
+// Kept: the lent words, numbers of nodes and the count m as parameters, with what bounds them in each contract (`HasRecord`, `Inside`,
+// `Below`, 512 latest, latest ≤ 4097, made ≤ 4096, 0 < m): the words are lent to each call as in `records`, and a struct over them would
+// have to ensure the same words afterwards.
 #![tactic(auto)]
 
 ghost use Rattle.std.specs.Prelude.{◌≡◌, List, ℕ, ◌+◌, ◌*◌, ◌<◌, ◌≤◌, length, Some, None};

@@ -1,14 +1,8 @@
 -- The causes of the call in order, and the record of the call, refused and accepted. Assumes nothing.
-use Prim.Native.Nat.{ℕ, ◌<◌, ◌≤◌, zero-le}
-use mathlib.Core.Path.{◌≡◌, refl, sym, ap, ◌∙◌}
-use mathlib.Core.Logic.{◌≢◌}
-use mathlib.Core.List.{List, [], ◌∷◌}
-use native.Mathlib.Omega.{arith}
-use lib.ListN.{length}
-use borrow.Author.Tests.{le-leb, lt-leb}
+use Rattle.std.proofs.Common.{ℕ, ◌<◌, ◌≤◌, zero-le, ◌≡◌, refl, sym, ap, ◌∙◌, ◌≢◌, List, [], ◌∷◌, arith, length, le-leb, None, Some, Result, Ok, Err}
+use Rattle.std.proofs.lemmas.Bool.{lt-leb}
 use Rattle.deck.specs.declared.cause.Cause.{Cause}
 use Rattle.deck.specs.declared.cause.Cause.TheVariants.{ShortWorkspace, WrongLength}
-use Rattle.std.specs.Prelude.{None, Some, Result, Ok, Err}
 use Rattle.deck.specs.Sheet.{read, cause, sheet_cause}
 use Rattle.deck.specs.Planner.{plan_for, or_dark, round_of}
 use Rattle.deck.specs.Calls.{workspace_for, workspace_of, plan_words, search_cause, search_found, search_written, search_answer_for, search_output_for, search_answer, search_output, SearchCall}

@@ -33,6 +33,7 @@ pub fn search(s: &[u8], work: &mut [u32], out: &mut [u16]) -> Result<SearchAnswe
 {
     check(s, work.len(), out.len())?;
     if s.is_empty() {
+        // Kept: 255 is document 01's number of an entry that has no task.
         return Ok(SearchAnswer::Plan {
             tasks: [255; 12],
             flowtime: 0,

@@ -1,5 +1,5 @@
 -- `make_root` meets its contract. Assumes nothing.
-use native.Mathlib.Omega.{arith}
+use Rattle.std.proofs.Common.{arith}
 use Rattle.prices.specs.Square.{copied}
 use Rattle.roots.proofs.Filling.{root_filled, begun_kept}
 use Rattle.roots.proofs.make_root.Goals as goal

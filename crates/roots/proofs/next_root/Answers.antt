@@ -1,5 +1,5 @@
 -- `next_root` meets its contract: the chosen slot is the next in order. Assumes nothing.
-use native.Mathlib.Omega.{arith}
+use Rattle.std.proofs.Common.{arith}
 use Rattle.prices.specs.Square.{copied}
 use Rattle.roots.proofs.Made.{handed_row, handed_kept, next_handed, chosen_inside}
 use Rattle.roots.proofs.Begun.{next_begun}

@@ -1,6 +1,5 @@
 -- `check` meets its contract: the causes in order. Assumes nothing.
-use Rattle.std.proofs.Common.{rules, ◌≡◌, refl, sym, ◌∙◌, ◌+◌, ◌*◌, arith, None}
-use native.Mathlib.Numerals.{add-one}
+use Rattle.std.proofs.Common.{rules, ◌≡◌, refl, sym, ◌∙◌, ◌+◌, ◌*◌, arith, None, add-one}
 use Rattle.deck.specs.Sheet.{read, sheet_cause}
 use Rattle.deck.specs.Calls.{plan_words, workspace_of}
 use Rattle.meaning.proofs.Accepted.{none_of_ok, cause_of_err}
