@@ -29,14 +29,15 @@ pub fn check(s: &[u8]) -> Result<(), Cause>
 }
 
 // Of an accepted sheet the header and the directory's pairs; nowhere past the last pair.
+// Kept: `sheet_cause`, here and where others ask for it, since a sheet of no bytes has no cause either and is no `AcceptedSheet`.
 fn reading_of(s: &[u8]) -> Reading
     requires { sheet_cause s.now ≡ None }
     ensures { result ≡ reading_of s.now }
 {
     let nowhere = Stretch { offset: 0, size: 0 };
     let mut pairs = [nowhere; MOST_PAIRS];
-    for k in 0..sheet_parts::pairs(s) {
-        pairs[k] = sheet_parts::pair_at(s, k);
+    for (k, pair) in pairs[..sheet_parts::pairs(s)].iter_mut().enumerate() {
+        *pair = sheet_parts::pair_at(s, k);
     }
     Reading {
         width: width(s),
@@ -77,6 +78,7 @@ pub fn grid_offset(s: &[u8]) -> usize
 
 // The grid byte of the place v, 0 past the grid. Of an accepted sheet: 0 free, 1 blocked, and 2, 3, 4 or 5 a free place that may be
 // left only to the north, east, south or west.
+// Kept: 0 as in the definition `grid_byte`, which is promised of any place.
 pub fn grid_byte(s: &[u8], v: usize) -> u8
     ensures value { result ≡ grid_byte (read s.now) v }
     ensures upper_bound { cause s.now ≡ None → result ≤ 5 }
@@ -85,6 +87,7 @@ pub fn grid_byte(s: &[u8], v: usize) -> u8
 }
 
 // The place at which the carrier i starts, 0 past the last start.
+// Kept: 0 as in the definition `start_of`, which is promised of any carrier's number.
 pub fn start(s: &[u8], i: Carrier) -> usize
     ensures value { result ≡ start_of (read s.now) i }
     ensures upper_bound { cause s.now ≡ None → result < area (read s.now) }
@@ -103,6 +106,7 @@ pub fn goal_count(s: &[u8], j: Task) -> usize
 }
 
 // The goal k of the task j, counted from 0; 0 past its last.
+// Kept: 0 as in the clause, which is of any task and any k; a caller that counts k below `goal_count` does not meet it.
 pub fn goal(s: &[u8], j: Task, k: usize) -> usize
     ensures value { result ≡ get_or (goals_of (read s.now) j) k 0 }
     ensures upper_bound { cause s.now ≡ None → result < area (read s.now) }
@@ -112,6 +116,7 @@ pub fn goal(s: &[u8], j: Task, k: usize) -> usize
 }
 
 // The last goal of the task j, 0 where it has none.
+// Kept: 0 as in the definition `last_goal`, which is promised of any task's number; no task of an accepted sheet is without goals.
 pub fn last_goal(s: &[u8], j: Task) -> usize
     ensures value { result ≡ last_goal (read s.now) j }
     ensures upper_bound { cause s.now ≡ None → result < area (read s.now) }
@@ -125,11 +130,10 @@ fn most_goals(s: &[u8]) -> usize
     ensures value { result ≡ most_goals (read s.now) }
     ensures upper_bound { result < 32768 }
 {
-    let mut most = 0;
-    for j in 0..count(s) {
-        most = sheet_parts::goals_number(s, Task(j)).max(most);
-    }
-    most
+    (0..count(s))
+        .map(|j| sheet_parts::goals_number(s, Task(j)))
+        .max()
+        .unwrap_or(0)
 }
 
 // The words of 32 bits of workspace by the formula.

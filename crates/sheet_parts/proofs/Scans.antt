@@ -1,7 +1,8 @@
 -- Laws of the tests on lists, an element at a time: of what is left from the index k on, where k is an element's index, and
 -- where it is past the last. Assumes nothing.
-use Rattle.std.proofs.Common.{ℕ, zero, suc, ◌+◌, ◌-◌, ap, ◌&&◌, ◌||◌, ◌≤◌, ◌<◌, max, ◌≡◌, refl, ◌∙◌, Bool, true, false, cond, not, List, [], ◌∷◌, zero-add, add-one, arith, eqb, leb, length, get_or, drop, drop_of_length-le, drop-cons, leb-true, leb-false}
-use Rattle.std.specs.List.{list_any, list_all, range_with_len}
+use Rattle.std.proofs.Common.{ℕ, zero, suc, ◌+◌, ◌-◌, ap, ◌&&◌, ◌||◌, ◌≤◌, ◌<◌, max, ◌≡◌, refl, sym, ◌∙◌, Bool, true, false, cond, not, Option, None, Some, List, [], ◌∷◌, zero-add, add-one, arith, eqb, leb, length, get_or, drop, drop_of_length-le, drop-cons, leb-true, leb-false}
+use Rattle.std.specs.List.{list_any, list_all, range_with_len, fold, reduce}
+use Rattle.std.specs.Option.{unwrap_or, option_map}
 use Rattle.deck.specs.Lists.{below, has, distinct, greatest}
 use Rattle.meaning.proofs.Lists.{get_or_count_from, length_count_from}
 
@@ -28,12 +29,18 @@ greatest_max x l = go (leb (greatest l) x) refl
     go true e = omega (arith, leb-true (greatest l) x e)
     go false e = omega (arith, leb-false (greatest l) x e)
 
-module _ (l : List ℕ) (k : ℕ) where
-  pub greatest_more : k < length l → greatest (drop k l) ≡ max (get_or l k 0) (greatest (drop (k + 1) l))
-  greatest_more h = rw (add-one k, drop-cons l k 0 h) (greatest_max (get_or l k 0) (drop (suc k) l))
+greatest_fold : (x : ℕ) (l : List ℕ) → fold max x l ≡ max x (greatest l)
+greatest_fold x [] = omega arith
+greatest_fold x (y ∷ l) = omega (arith, greatest_fold (max x y) l, greatest_max y l)
 
-  pub greatest_none : length l ≤ k → greatest (drop k l) ≡ 0
-  greatest_none h = rw (drop_of_length-le l {i = k} h) refl
+reduced : (l : List ℕ) → unwrap_or (reduce max l) 0 ≡ greatest l
+reduced [] = refl
+reduced (x ∷ l) = greatest_fold x l ∙ sym (greatest_max x l)
+
+-- the maximum where there is one, else 0
+pub greatest_reduced : (l : List ℕ) (r : Option ℕ) → option_map (λ x. x) r ≡ reduce max l → unwrap_or r 0 ≡ greatest l
+greatest_reduced l None e = ap (λ o. unwrap_or o 0) e ∙ reduced l
+greatest_reduced l (Some x) e = ap (λ o. unwrap_or o 0) e ∙ reduced l
 
 -- the number at an index of 0, 1, .., n - 1
 pub below_at : (n k : ℕ) → k < n → get_or (below n) k 0 ≡ k

@@ -128,7 +128,8 @@ pub fn stretch<'a>(s: &'a [u8], k: usize) -> &'a [u8]
 }
 
 // The word i of a list of two-byte values, 0 past the last.
-// Kept: 0 as in the definitions of a start and a goal, which are of any number of a carrier or a goal, as the calls for C are.
+// Kept: 0 as in the definitions of a start and a goal, which are of any number; an Option would be turned into it wherever one is
+// promised.
 #[tactic(auto, using(crate::proofs::Words::words_at, crate::proofs::Words::words_past))]
 pub fn nth_word(p: &[u8], i: usize) -> usize
     ensures value { result ≡ get_or (words p.now) i 0 }
@@ -142,7 +143,7 @@ pub fn nth_word(p: &[u8], i: usize) -> usize
 }
 
 // The last of the two-byte values p, 0 where there is none.
-// Kept: 0 as in the definition `last_goal`, which is of any task's number, as the call for C is.
+// Kept: 0 as in the definition `last_goal`, which is of any task's number, and so of one without goals.
 #[tactic(auto, using(crate::proofs::Words::length_words, crate::proofs::Words::last_of))]
 pub fn last_word(p: &[u8]) -> usize
     ensures value { result ≡ last 0 (words p.now) }
@@ -184,7 +185,7 @@ pub fn area(s: &[u8]) -> usize
 }
 
 // The grid byte of the place v, 0 past the grid.
-// Kept: 0 as in the definition `grid_byte`, by which a place past the grid is not free for its number alone.
+// Kept: 0 as in the definition `grid_byte`; whether there is such a place `is_free` asks by the area.
 pub fn grid_byte(s: &[u8], v: usize) -> u8
     ensures { result ≡ grid_byte (read s.now) v }
 {
