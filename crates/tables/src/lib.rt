@@ -12,6 +12,8 @@ ghost use Rattle.tables.specs.Copies.{part_of, weight_of, Weighed};
 
 use deck::{Carrier, Task};
 
+// Kept: a number for a barred entry, here and in `filled`, `Part` and `weigh`. Document 01 has it in the tables that callers lend, and
+// asks for copies that are arrays of it.
 pub const BARRED: u16 = 65535;
 
 // Heavier than any sum of 12 entries that are not barred.
@@ -19,6 +21,7 @@ pub const HEAVY: u64 = 786409;
 
 // A part of the assignments that remain: the carriers before `row` keep their tasks, carrier `row` has none that is closed, for
 // which `closed` is not 0.
+// Kept: two arrays, since `tasks` is by carrier and `closed` by task.
 #[derive(Clone, Copy, Debug, PartialEq, Eq)]
 pub struct Part {
     pub tasks: [u8; 12],
@@ -27,6 +30,9 @@ pub struct Part {
 }
 
 // The number for a carrier and a task in a square of twelve to a row.
+// Kept: one array of 144, which document 01 asks for: here and in `put` its places are counted, and nowhere else.
+// Kept: carrier and task by a bound, here and in the crates above, since a call may be handed any number of each; a second type for
+// those below 12 would be made of the first wherever one is read from a list.
 pub fn entry<T: Copy>(square: &[T; 144], carrier: Carrier, task: Task) -> T
     requires { (carrier.0 < 12) × (task.0 < 12) }
     ensures { slice_get square.now (carrier.0 * 12 + task.0) ≡ Some result }
@@ -63,6 +69,7 @@ pub fn square<T: Copy, F: Fn(Carrier, Task) -> T>(m: usize, rest: T, number: F) 
 }
 
 // The entry of a table of m by m.
+// Kept: the table as the C interface lends it, a list with m to a row, and so a carrier and a task below m.
 fn table_entry(m: usize, table: &[u16], carrier: Carrier, task: Task) -> u16
     requires { (m ≤ 12) × (carrier.0 < m) × (task.0 < m) × (length table.now ≡ m * m) }
     ensures { result ≡ entry_at m table.now carrier.0 task.0 }
