@@ -1,9 +1,10 @@
 -- A round over arrays: the tree of a row begins, grows by the nearest column, and reaches a free one; the way back goes a step, and
 -- ends. Assumes nothing.
 use Rattle.std.proofs.Common.{Option, None, Some, get_or, ℕ, suc, ◌+◌, ◌-◌, ◌≤◌, ◌<◌, ◌^◌, zero-le, ◌≡◌, refl, sym, ap, subst, ◌∙◌, ◌⊎◌, inl, inr, ⊎_elim, ◌≢◌, Bool, true, false, cond, List, not-suc-le-zero, le_refl, arith, length, set, replicate, length-set, get_or-set_same, get_or-set_other, eqb, eq-eqb, ne_eqb}
-use mathlib.Core.Bool.{false≢true}
-use native.Mathlib.Decide.{ℕ_discrete}
-use lib.ListN.{get_or-replicate, get_or-eq_default}
+use Rattle.std.proofs.lemmas.Bool.{false≢true}
+use Rattle.std.proofs.Math.Decide.{ℕ_discrete}
+use Rattle.std.proofs.lemmas.List.{get_or-replicate}
+use Rattle.std.proofs.Math.ListN.{get_or-eq_default}
 use Rattle.meaning.specs.Meaning.{◌at◌}
 use Rattle.prices.specs.Matching.{Put, Raised, LeastSlack, Matches, Tree, Bounded}
 use Rattle.prices.specs.Square.{cell}
