@@ -89,10 +89,7 @@ fn code_of(b: Option<Choice>) -> usize
 fn choice_of(code: usize) -> Option<Choice>
     ensures { result ≡ choice_of code }
 {
-    if code == 0 {
-        return None;
-    }
-    let c = code - 1;
+    let c = code.checked_sub(1)?;
     Some(Choice {
         n: c / 16,
         j: c % 16,
@@ -116,10 +113,8 @@ fn own_of(work: &[u32], k: usize) -> Option<Choice>
     ensures { result ≡ own_at work.now k }
 {
     let own = Record::at(work, k).tournament() % 16;
-    if own == 0 {
-        return None;
-    }
-    Some(Choice { n: k, j: own - 1 })
+    let j = own.checked_sub(1)?;
+    Some(Choice { n: k, j })
 }
 
 // The choice among the slots of number k and those under it.
