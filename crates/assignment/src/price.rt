@@ -25,7 +25,7 @@ struct Duals {
 }
 
 // The prices of the first m numbers, 0 past m.
-// Kept: document 01 asks for 0 past m, and the C interface lends twelve places.
+// Kept: document 01 asks for zeros there, and the C interface lends twelve places.
 fn prices<F: Fn(usize) -> i32>(m: usize, price: F) -> [i32; 12]
     requires few { m ≤ 12 }
     requires callable { (k : ℕ) → k < m → F.pre price k }

@@ -1,18 +1,24 @@
 -- Sums of weights carrier by carrier, and the list of 12. Assumes nothing.
-use Rattle.std.proofs.Common.{Option, None, Some, IsSome, rules, get_or, ℕ, ◌+◌, ◌≤◌, ◌<◌, ◌≡◌, refl, sym, ap, ◌∙◌, List, add-one, arith, length, take, drop, ◌++◌, set, replicate, length-take-le}
+use Rattle.std.proofs.Common.{Option, None, Some, IsSome, rules, get_or, ℕ, ◌+◌, ◌≤◌, ◌<◌, ◌≡◌, refl, sym, ap, ◌∙◌, List, [], ◌∷◌, map, arith, length, take, drop, ◌++◌, set, replicate, length-take-le}
 use Rattle.std.proofs.lemmas.List.{take_all, take_more, take_more_set, drop-replicate}
+use Rattle.std.specs.List.{sum_by, range_with_len}
+use Rattle.std.proofs.lemmas.List.Sums.{sum_by-cons}
+use Rattle.deck.specs.Lists.{sum}
+use Rattle.meaning.proofs.Iterators.{range_same}
 use Rattle.deck.specs.Calls.{task_list}
 use Rattle.deck.specs.declared.Task.{Task}
 use Rattle.hungarian.specs.Solving.{task_numbers}
 use Rattle.hungarian.proofs.Gains.{task_at}
 use Rattle.meaning.specs.Meaning.{◌at◌}
 use Rattle.prices.specs.Matching.{cost}
-use Rattle.prices.proofs.Sums.{sum_next}
 
-pub cost_next : (c : ℕ → ℕ → ℕ) (a : List ℕ) (n s x : ℕ) → s ≡ cost n c a → x ≡ c n (a at n) → s + x ≡ cost (n + 1) c a
-cost_next c a n s x e f =
-    let z : 0 + n ≡ n = omega arith in
-    rw (add-one n, sum_next (λ i. c i (a at i)) 0 n, z, e, f)
+-- the sum over the carriers, as the definition adds up
+summed : (h : ℕ → ℕ) (l : List ℕ) → sum_by h l ≡ sum (map h l)
+summed h [] = refl
+summed h (x ∷ l) = sum_by-cons h x l ∙ ap (λ s. h x + s) (summed h l)
+
+pub cost_summed : (c : ℕ → ℕ → ℕ) (a : List ℕ) (m : ℕ) → sum_by (λ i. c i (a at i)) (range_with_len 0 m) ≡ cost m c a
+cost_summed c a m = summed (λ i. c i (a at i)) (range_with_len 0 m) ∙ ap (λ l. sum (map (λ i. c i (a at i)) l)) (range_same 0 m)
 
 -- a carrier whose task's number is below 12 has a task
 pub some_task : (l : List (Option Task)) (i : ℕ) → i < length l → task_numbers l at i < 12 → IsSome (get_or l i None)

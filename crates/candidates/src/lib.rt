@@ -51,12 +51,9 @@ fn total(m: usize, t: &[u16; 144], tasks: &[u8; 12]) -> u64
     requires { (m ≤ 12) × ((i : ℕ) → i < m → tasks.now at i < 12) }
     ensures { result ≡ cost m (λ i j. weigh_of (cell t.now i j)) tasks.now }
 {
-    let mut sum: u64 = 0;
-    // Kept: an index, which names the carrier in the list and in the table.
-    for i in 0..m {
-        sum += weigh(entry(t, Carrier(i), task_of(tasks, Carrier(i))));
-    }
-    sum
+    (0..m)
+        .map(|i| weigh(entry(t, Carrier(i), task_of(tasks, Carrier(i)))))
+        .sum()
 }
 
 // The first assignment in order of the table of which t is the working copy, with prices.
