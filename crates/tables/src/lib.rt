@@ -12,8 +12,7 @@ ghost use Rattle.tables.specs.Copies.{part_of, weight_of, Weighed};
 
 use deck::{Carrier, Task};
 
-// Kept: a number for a barred entry, here and in `filled`, `Part` and `weigh`. Document 01 has it in the tables that callers lend, and
-// asks for copies that are arrays of it.
+// Kept: a number for a barred entry, since document 01 has it in the tables that callers lend.
 pub const BARRED: u16 = 65535;
 
 // Heavier than any sum of 12 entries that are not barred.
@@ -30,7 +29,7 @@ pub struct Part {
 }
 
 // The number for a carrier and a task in a square of twelve to a row.
-// Kept: one array of 144, which document 01 asks for: here and in `put` its places are counted, and nowhere else.
+// Kept: one array of 144, which document 01 asks for; its places are counted here and in `put`, and nowhere else.
 // Kept: carrier and task by a bound, here and in the crates above, since a call may be handed any number of each; a second type for
 // those below 12 would be made of the first wherever one is read from a list.
 pub fn entry<T: Copy>(square: &[T; 144], carrier: Carrier, task: Task) -> T
@@ -41,6 +40,7 @@ pub fn entry<T: Copy>(square: &[T; 144], carrier: Carrier, task: Task) -> T
 }
 
 // The number x for a carrier and a task.
+// Kept: a place of the array, as in `entry`.
 pub fn put<T: Copy>(square: &mut [T; 144], carrier: Carrier, task: Task, x: T)
     requires { (carrier.0 < 12) × (task.0 < 12) }
     ensures { square.new ≡ set square.old (carrier.0 * 12 + task.0) x }
@@ -86,6 +86,7 @@ pub fn task_of(tasks: &[u8; 12], carrier: Carrier) -> Task
 }
 
 // The working copy of a table of m by m entries, filled for m carriers.
+// Kept: barred past m, since document 01 asks for a copy that is an array of barred entries at first.
 pub fn filled(m: usize, table: &[u16]) -> [u16; 144]
     requires { (m ≤ 12) × (length table.now ≡ m * m) }
     ensures { copied m result ≡ table.now }
@@ -99,6 +100,7 @@ pub fn filled(m: usize, table: &[u16]) -> [u16; 144]
 
 impl Part {
     // The entry x for a carrier and a task in the part's working copy: barred where no assignment of the part uses it.
+    // Kept: an entry of 16 bits like the others, so that a part's copy is a table again.
     #[tactic(auto, unfolding(partition::specs::Parts::part_entry))]
     fn entry(&self, carrier: Carrier, task: Task, x: u16) -> u16
         requires { (self.now.row.0 < 12) × (task.0 < 12) }
@@ -118,6 +120,7 @@ impl Part {
     }
 
     // The part's working copy of a table.
+    // Kept: barred past m, as in `filled`.
     pub fn table(&self, m: usize, table: &[u16; 144]) -> [u16; 144]
         requires { (m ≤ 12) × (self.now.row.0 < 12) }
         ensures { copied m result ≡ part_table m (copied m table.now) (part_of self.now) }
@@ -129,6 +132,7 @@ impl Part {
 }
 
 // The weight of an entry.
+// Kept: a barred entry has a weight like the others, so that the method needs no case for it.
 #[tactic(auto, unfolding(prices::specs::Weights::weigh))]
 pub fn weigh(x: u16) -> u64
     ensures { (result ≡ weigh_of x) × (x ≤ 65535) × (result ≤ heavy) }
