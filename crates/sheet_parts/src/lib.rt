@@ -58,6 +58,7 @@ pub fn width(s: &[u8]) -> usize
     byte_at(s, WIDTH)
 }
 
+// Kept: apart from `width`, since it promises `height_of`.
 pub fn height(s: &[u8]) -> usize
     ensures value { result ≡ height_of s.now }
     ensures upper_bound { result < 256 }
@@ -65,6 +66,7 @@ pub fn height(s: &[u8]) -> usize
     byte_at(s, HEIGHT)
 }
 
+// Kept: apart from `width`, since it promises `count_of`.
 pub fn count(s: &[u8]) -> usize
     ensures value { result ≡ count_of s.now }
     ensures upper_bound { result < 256 }
@@ -72,6 +74,7 @@ pub fn count(s: &[u8]) -> usize
     byte_at(s, COUNT)
 }
 
+// Kept: apart from `width`, since it promises `horizon_of`.
 pub fn horizon(s: &[u8]) -> usize
     ensures value { result ≡ horizon_of s.now }
     ensures upper_bound { result < 256 }
