@@ -1,7 +1,7 @@
 -- The whole answers of the call: the cause, none, the least assignment. Assumes nothing.
 use Rattle.std.proofs.Common.{ℕ, ◌*◌, ◌≤◌, ◌<◌, ◌≢◌, ◌≡◌, refl, List, length, replicate, pos, Option, None, Some, Result, Ok, Err, arith, ◌-◌, take_at, le-leb, eq-eqb, ne_eqb}
 use Rattle.std.proofs.lemmas.Bool.{lt-leb}
-use lib.ListN.{get_or-replicate}
+use Rattle.std.proofs.lemmas.List.{get_or-replicate}
 use Rattle.deck.specs.Assignments.{least_assignment}
 use Rattle.deck.specs.Calls.{assignment_cause, least_for, sum_found, assignment_answer_for, assignment_tasks, ZeroFrom, AssignmentCall}
 use Rattle.deck.specs.Numbers.{assignment_numbers, sum_told, tasks_told, rows_told, columns_told}

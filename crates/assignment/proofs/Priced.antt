@@ -1,7 +1,9 @@
 -- Prices as signed numbers: what is within their range, and the condition that prices have to keep. Assumes nothing.
-use Rattle.std.proofs.Common.{zero-le, true, ℕ, zero, suc, ◌+◌, ◌-◌, ◌≤◌, ◌<◌, ◌≡◌, refl, sym, ap, subst, ◌∙◌, ⊎_elim, Bool, true, false, cond, List, eq-or-lt_of_le, le_of_suc-le-suc, add-one, arith, length, get_or, set, length-set, get_or-set_same, get_or-set_other, ℤ, pos, negsuc, neg_ℤ, ◌+ℤ◌, ◌-ℤ◌, ◌≤ℤ◌, ltb, le→leb, le-ltb, w32, SFits}
-use lib.IntN.{sub_ℕ}
-use lib.Signed.{mag, le_z_yes}
+use Rattle.std.proofs.Common.{zero-le, true, ℕ, zero, suc, ◌+◌, ◌-◌, ◌≤◌, ◌<◌, ◌≡◌, refl, sym, ap, subst, ◌∙◌, ⊎_elim, Bool, true, false, cond, List, eq-or-lt_of_le, le_of_suc-le-suc, add-one, not-suc-le-zero, arith, length, get_or, drop, ◌++◌, replicate, set, get_or-set_same, get_or-set_other, ℤ, pos, negsuc, neg_ℤ, ◌+ℤ◌, ◌-ℤ◌, ◌≤ℤ◌, ltb, le→leb, le-ltb, w32, SFits}
+use Rattle.std.proofs.Math.IntN.{sub_ℕ}
+use Rattle.std.specs.Int.Signed.{mag, le_z_yes}
+use Rattle.std.proofs.Math.ListN.{get_or-append}
+use Rattle.std.proofs.lemmas.List.{get_or-replicate, get_or-append-add, drop-replicate}
 use Rattle.std.specs.List.{AllWithin, range_with_len}
 use Rattle.std.specs.Bool.{MatchBool}
 use Rattle.std.proofs.lemmas.List.FromFn.{get_or-range_with_len, length-range_with_len}
@@ -41,22 +43,29 @@ pub neg_below : (x : ℕ) → neg_ℤ (pos x) ≤ℤ pos 0
 neg_below zero = le_z_yes tt
 neg_below (suc x) = le_z_yes tt
 
--- the first n prices meet P, the others are 0
+-- the first n of these prices meet P
 pub record PricesTo (P : ℕ → ℤ → Type 0) (n : ℕ) (r : List ℤ) : Type 0 where
-  pub size : length r ≡ 12
   pub done : (k : ℕ) → k < n → P k (get_or r k (pos 0))
-  pub left : (k : ℕ) → n ≤ k → k < 12 → get_or r k (pos 0) ≡ pos 0
+
+pub prices_none : (P : ℕ → ℤ → Type 0) (r : List ℤ) → PricesTo P 0 r
+prices_none P r = record { done = λ k l. absurd (not-suc-le-zero l) }
 
 module _ (P : ℕ → ℤ → Type 0) where
-  pub prices_more : (n : ℕ) (r : List ℤ) (y : ℤ) → n < 12 → P n y → PricesTo P n r → PricesTo P (n + 1) (set r n y)
+  pub prices_more : (n : ℕ) (r : List ℤ) (y : ℤ) → n < length r → P n y → PricesTo P n r → PricesTo P (n + 1) (set r n y)
   prices_more n r y h p R = record {
-    size = length-set r n y ∙ R.size;
-    done = λ k l. ⊎_elim (λ q. rw q (subst (λ (z : ℤ). P n z) (sym here) p)) (λ g. subst (λ (z : ℤ). P k z) (sym (get_or-set_other r n k y (pos 0) (omega arith))) (R.done k g)) (eq-or-lt_of_le (le_of_suc-le-suc (rw add-one at l)));
-    left = λ k l g. get_or-set_other r n k y (pos 0) (omega arith) ∙ R.left k (omega arith) g;
+    done = λ k l. ⊎_elim (λ q. rw q (subst (λ (z : ℤ). P n z) (sym (get_or-set_same r n y (pos 0) h)) p))
+        (λ g. subst (λ (z : ℤ). P k z) (sym (get_or-set_other r n k y (pos 0) (omega arith))) (R.done k g)) (eq-or-lt_of_le (le_of_suc-le-suc (rw add-one at l)));
   }
-    where
-      here : get_or (set r n y) n (pos 0) ≡ y
-      here = get_or-set_same r n y (pos 0) (omega (arith, R.size))
+
+  -- the prices of the first m numbers, and what follows them
+  pub prices_first : (m n : ℕ) (r rest : List ℤ) → length r ≡ m → m ≤ n → PricesTo P n r → (k : ℕ) → k < m → P k (get_or (r ++ rest) k (pos 0))
+  prices_first m n r rest e h R k l = subst (λ (z : ℤ). P k z) (sym (get_or-append r rest (pos 0) k (rw e l))) (R.done k (omega arith))
+
+pub zero_after : (m : ℕ) (r : List ℤ) → length r ≡ m → m ≤ 12 → ZeroFrom m (r ++ drop m (replicate 12 (pos 0)))
+zero_after m r e few = λ k l h.
+    let at : length r + (k - m) ≡ k = omega (arith, e) in
+    rw (drop-replicate {X = ℤ} m 12 (pos 0))
+    (subst (λ (i : ℕ). get_or (r ++ replicate (12 - m) (pos 0)) i (pos 0) ≡ pos 0) at (get_or-append-add r (replicate (12 - m) (pos 0)) (k - m) (pos 0) ∙ get_or-replicate (12 - m) (k - m) (pos 0) (pos 0) (omega arith)))
 
 pub prices_made : (m top : ℕ) (r : List ℤ) (f : ℕ → ℤ) → ((k : ℕ) → k < m → get_or r k (pos 0) ≡ f k) → ((k : ℕ) → k < m → mag (f k) ≤ top) → ZeroFrom m r → Prices m top f r
 prices_made m top r f e s z = record { each = e; small = λ k l. subst (λ (y : ℤ). mag y ≤ top) (sym (e k l)) (s k l); zero = z }

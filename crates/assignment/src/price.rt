@@ -9,13 +9,15 @@ ghost use Rattle.meaning.specs.Meaning.{◌at◌};
 ghost use Rattle.prices.specs.Weights.{weigh as weigh_of};
 ghost use Rattle.prices.specs.Square.{cell, copied};
 ghost use Rattle.candidates.specs.Candidates.{candidate_of};
-ghost use Rattle.assignment.specs.Answers.{Answered, Handed, Prices, Small, rounded as rounded_of, row_of, column_of, rounded_column, tight_of, dearest, highest};
+ghost use Rattle.assignment.specs.Answers.{Answered, Handed, Prices, Small, rounded as rounded_of, rounded_column, tight_of, dearest, highest};
 
 use candidates::{Candidate, PricedCandidate};
 use deck::{Assignment, Carrier, Task};
 use tables::{entry, task_of, weigh, weights};
 
 // The prices of the rows and of the columns.
+// Kept: two arrays, of which one is by carrier and one by task; and a type beside `hungarian::Prices`, whose columns are negated, so that
+// neither stands for the other.
 #[derive(Clone, Copy)]
 struct Duals {
     rows: [i32; 12],
@@ -23,6 +25,7 @@ struct Duals {
 }
 
 // The prices of the first m numbers, 0 past m.
+// Kept: document 01 asks for zeros there, and the C interface lends twelve places.
 fn prices<F: Fn(usize) -> i32>(m: usize, price: F) -> [i32; 12]
     requires few { m ≤ 12 }
     requires callable { (k : ℕ) → k < m → F.pre price k }
@@ -30,18 +33,10 @@ fn prices<F: Fn(usize) -> i32>(m: usize, price: F) -> [i32; 12]
     ensures zero { ZeroFrom m result }
 {
     let mut prices = [0i32; 12];
-    for k in 0..m {
-        prices[k] = price(k);
+    for (k, own) in prices[..m].iter_mut().enumerate() {
+        *own = price(k);
     }
     prices
-}
-
-// The price of a row that the method has.
-fn signed(x: u64) -> i32
-    requires { x ≤ dearest }
-    ensures { result ≡ pos x }
-{
-    x as i32
 }
 
 // The price of a column, of which the method has the negated one.
@@ -75,28 +70,12 @@ fn serves(row: i32, column: i32, entry: u16) -> bool
     row + column <= weigh(entry) as i32
 }
 
-// The prices of the columns, by the negated ones.
-fn column_prices(m: usize, columns: &[u64; 12]) -> [i32; 12]
-    requires { (m ≤ 12) × ((k : ℕ) → k < m → columns.now at k ≤ dearest) }
-    ensures { Prices m dearest (column_of columns.now) result }
-{
-    prices(m, |k| negated(columns[k]))
-}
-
 // The prices of the columns, by the negated ones by merged weights.
 fn rounded_prices(m: usize, columns: &[u64; 12]) -> [i32; 12]
     requires { m ≤ 12 }
     ensures { Prices m dearest (rounded_column columns.now) result }
 {
     prices(m, |k| negated(rounded(columns[k])))
-}
-
-// The prices of the rows.
-fn row_prices(m: usize, rows: &[u64; 12]) -> [i32; 12]
-    requires { (m ≤ 12) × ((k : ℕ) → k < m → rows.now at k ≤ dearest) }
-    ensures { Prices m highest (row_of rows.now) result }
-{
-    prices(m, |k| signed(rows[k]))
 }
 
 // The prices of the rows that are tight on the tasks.
@@ -124,16 +103,17 @@ impl Duals {
     }
 
     // Those of a run on plain weights.
+    // Kept: m, the table and that it has an assignment, here and below: `priced` is handed these, and a struct of them would be made
+    // there only to be taken apart here.
     fn solved(m: usize, t: &[u16; 144]) -> Duals
         requires { (m ≤ 12) × ((a : List ℕ) × (least_assignment m (copied m t.now) ≡ Some a)) }
         ensures { (a : List ℕ) → least_assignment m (copied m t.now) ≡ Some a → Handed m (copied m t.now) a result.rows result.columns }
     {
         let weights = weights(m, t);
-        let solution = hungarian::solve(m, &weights);
-        Duals {
-            rows: row_prices(m, &solution.prices.rows),
-            columns: column_prices(m, &solution.prices.columns),
-        }
+        let solved = hungarian::solve(m, &weights).prices;
+        let rows = prices(m, |k| solved.rows[k] as i32);
+        let columns = prices(m, |k| negated(solved.columns[k]));
+        Duals { rows, columns }
     }
 
     // Whether the price of a row serves every entry of the row.

@@ -1,8 +1,8 @@
 -- What the solver finds on the weights of a table: by merged weights the first assignment in order, or that there is none. Assumes
 -- nothing.
 use Rattle.std.proofs.Common.{None, Some, refl, ℕ, ◌≤◌, ◌<◌, ◌≡◌, sym, ap, subst, ◌∙◌, Bool, true, false, List, mul-le-mul_left, arith, length, take, get_or-take, length-take-le}
-use native.Mathlib.Decide.{ℕ_discrete}
-use lib.ListN.{get_or-append}
+use Rattle.std.proofs.Math.Decide.{ℕ_discrete}
+use Rattle.std.proofs.Math.ListN.{get_or-append}
 use Rattle.deck.specs.Lists.{below}
 use Rattle.deck.specs.Assignments.{barred, entry_at, sum_of, least_assignment}
 use Rattle.deck.specs.Calls.{task_list}

@@ -1,8 +1,9 @@
 -- The order of candidates as the code compares them is the order of assignments. Assumes nothing.
 use Rattle.std.proofs.Common.{Option, Some, Ordering, eq-eqb, ne_eqb, ◌≢◌, ℕ, zero, suc, ◌+◌, ◌-◌, ◌≤◌, ◌<◌, suc-le-suc, zero-le, ◌≡◌, refl, sym, ap, subst, ◌∙◌, ◌⊎◌, inl, inr, ⊎_elim, Bool, true, false, cond, List, [], ◌∷◌, le_of_suc-le-suc, arith, length, replicate, get_or-append-add, ltb, lt-ltb, le-ltb}
 use Rattle.std.proofs.lemmas.Bool.{cases_lt}
-use native.Mathlib.Nat.{suc_inj}
-use lib.ListN.{get_or-append, get_or-replicate}
+use Rattle.std.proofs.Math.Nat.{suc_inj}
+use Rattle.std.proofs.Math.ListN.{get_or-append}
+use Rattle.std.proofs.lemmas.List.{get_or-replicate}
 use Rattle.std.specs.Ordering.{nat_cmp, is_lt, is_some_and, partial_lt, partial_ordering_then}
 use Rattle.std.specs.Cmp.Lexicographic.{slice_partial_cmp}
 use Rattle.candidates.specs.declared.Candidate.{Candidate}

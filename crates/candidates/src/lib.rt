@@ -33,15 +33,15 @@ pub struct PricedCandidate {
 }
 
 // The tasks of m carriers as a list of 12, 255 past m.
+// Kept: 255 is document 01's number in a task list from m on; and m beside the list, past whose part there may be no task.
 fn listed(m: usize, pairs: &Pairs) -> [u8; 12]
     requires { (m ≤ 12) × (length (task_numbers pairs.now.tasks) ≡ 12) × ((i : ℕ) → i < m → task_numbers pairs.now.tasks at i < 12) }
     ensures { result ≡ task_list (take m (task_numbers pairs.now.tasks)) }
 {
     let mut tasks = [255u8; 12];
-    // Kept: an index, since what stands past m in the pairs is not known.
-    for i in 0..m {
+    for (i, number) in tasks[..m].iter_mut().enumerate() {
         let task = pairs.tasks[i].unwrap();
-        tasks[i] = task.0 as u8;
+        *number = task.0 as u8;
     }
     tasks
 }
@@ -51,12 +51,9 @@ fn total(m: usize, t: &[u16; 144], tasks: &[u8; 12]) -> u64
     requires { (m ≤ 12) × ((i : ℕ) → i < m → tasks.now at i < 12) }
     ensures { result ≡ cost m (λ i j. weigh_of (cell t.now i j)) tasks.now }
 {
-    let mut sum: u64 = 0;
-    // Kept: an index, which names the carrier in the list and in the table.
-    for i in 0..m {
-        sum += weigh(entry(t, Carrier(i), task_of(tasks, Carrier(i))));
-    }
-    sum
+    (0..m)
+        .map(|i| weigh(entry(t, Carrier(i), task_of(tasks, Carrier(i)))))
+        .sum()
 }
 
 // The first assignment in order of the table of which t is the working copy, with prices.

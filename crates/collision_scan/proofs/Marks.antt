@@ -1,7 +1,7 @@
 -- What the marks show: how a carrier's mark is added to them, and that the times before which there is no collision are passed over.
 -- Assumes nothing.
 use Rattle.std.proofs.Common.{ℕ, zero, suc, ◌+◌, ◌-◌, ◌*◌, ◌≤◌, ◌<◌, ◌≡◌, refl, sym, ap, ◌∙◌, ◌⊎◌, inl, inr, Bool, true, false, ◌&&◌, not, List, suc-mul, mul-le-mul_right, arith, add-one, length, get_or, set, length-set, get_or-set_same, get_or-set_other, eqb, eqb-true, ne_eqb}
-use native.Mathlib.Decide.{ℕ_discrete}
+use Rattle.std.proofs.Math.Decide.{ℕ_discrete}
 use Rattle.deck.specs.Lists.{pieces, head_of}
 use Rattle.deck.specs.Collisions.{place_collides, move_collides, place_collision, move_collision, first_collision}
 use Rattle.collision_scan.specs.Words.{place_in, meets, exchanges}

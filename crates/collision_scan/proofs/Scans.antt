@@ -1,7 +1,7 @@
 -- What is left of the collisions at each place of the nested loops, and how a turn takes one step off it. Assumes nothing.
 use Rattle.std.proofs.Common.{ℕ, zero, suc, ◌+◌, ◌-◌, ◌≤◌, ◌<◌, ◌≡◌, refl, sym, ap, ap₂, ◌∙◌, ◌⊎◌, inl, inr, Bool, true, false, cond, List, [], ◌∷◌, ◌++◌, map, append_assoc, eq-or-lt_of_le, arith, add-one, ltb, lt-ltb, le-ltb}
-use mathlib.Core.List.{map-append}
-use native.Mathlib.Nat.{sub-zero}
+use Rattle.std.proofs.lemmas.List.{map-append}
+use Rattle.std.proofs.Math.Nat.{sub-zero}
 use Rattle.deck.specs.Lists.{count_from, below, select, each, head_of}
 use Rattle.deck.specs.Collisions.{pairs, place_collides, move_collides, place_collision, move_collision, collisions_at, collisions, first_collision}
 use Rattle.deck.specs.declared.Collision.{Collision}

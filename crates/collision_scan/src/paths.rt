@@ -19,6 +19,9 @@ pub struct Paths<'a> {
 
 impl Paths<'_> {
     // The place of a carrier at t.
+    // Kept: the C interface lends the paths as one list, and this is the one place that counts its words.
+    // Kept: carrier and time by their bounds here and below, which are those of this value's paths: a type of such numbers would have to
+    // be tied to it.
     fn place(&self, c: Carrier, t: usize) -> usize
         requires { (c.0 < self.now.count) × (t ≤ self.now.last) }
         ensures { result ≡ place_in self.now.words.now (suc self.now.last) c.0 t }
@@ -67,6 +70,7 @@ impl Paths<'_> {
     // Marks the places at t: 16 × (t + 1) and the carrier's number, so that all marks of a time are greater than those of the times
     // before, and than the 0 of a place that nobody was on. The answer is false if two carriers may collide at t, or by their steps to
     // it; the marks are those of the time before t, if there is one.
+    // Kept: the flag is all that is asked of a time; where it is false, the marks say nothing, so that they are no second answer.
     fn mark_places(&self, t: usize, seen: &mut [u32; 1024]) -> bool
         requires in_bounds { (self.now.count ≤ 16) × (t ≤ self.now.last) × (length seen.old ≡ 1024) }
         requires marked { 0 < t → Marked self.now.words.now (suc self.now.last) self.now.count (t - 1) seen.old }
@@ -85,6 +89,7 @@ impl Paths<'_> {
 
     // A time up to `last` before which there is no collision. It is `last`, or the first collision's or one less, unless a place is
     // 1024 or more. A time costs one mark for each carrier, and not a test of all pairs.
+    // Kept: each time's marks are those that the next one reads, so that a search of the times would write them from its closure.
     fn calm_until(&self) -> usize
         ensures { (result ≤ self.now.last) × Calm self.now.words.now (suc self.now.last) self.now.count result }
     {

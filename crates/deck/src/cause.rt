@@ -35,6 +35,7 @@ pub enum Cause {
 impl From<Cause> for u8 {
     ghost from_gives = { λ c n. n ≡ number c };
 
+    // Kept: this is the conversion that others call, so that the cast stands here alone.
     fn from(cause: Cause) -> u8 {
         cause as u8
     }

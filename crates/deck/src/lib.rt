@@ -54,6 +54,7 @@ pub enum Collision {
 }
 
 // A stretch of the sheet that a pair of the directory names.
+// Kept: a type of its own. Others of two numbers have its shape, but none of them is an offset with a size.
 #[derive(Clone, Copy, Debug, PartialEq, Eq)]
 pub struct Stretch {
     pub offset: usize,
@@ -64,6 +65,7 @@ pub struct Stretch {
 pub const MOST_PAIRS: usize = 14;
 
 // What the sheet reader finds in an accepted sheet: the header, and the directory's pairs, nothing past the last.
+// Kept: an array, since there is no heap; `count` is the header's m, two less than there are pairs.
 #[derive(Clone, Copy, Debug, PartialEq, Eq)]
 pub struct Reading {
     pub width: usize,
@@ -75,6 +77,7 @@ pub struct Reading {
 }
 
 // A least assignment: the sum of its entries, the task of each carrier, and the dual prices of rows and columns.
+// Kept: three arrays, since the C interface hands out each as a list of its own, and `columns` is by task where the others are by carrier.
 #[derive(Clone, Copy, Debug, PartialEq, Eq)]
 pub struct Assignment {
     pub sum: usize,
@@ -85,6 +88,7 @@ pub struct Assignment {
 
 // What a search that is not refused comes to, with how many nodes it made: a plan, of which the bound is the flowtime; that there is
 // no plan; or that its nodes are spent, with a bound below which no plan's flowtime is.
+// Kept: an enum of its own. Of the two answers without a plan each has values, so that neither Option nor Result has this shape.
 #[derive(Clone, Copy, Debug, PartialEq, Eq)]
 pub enum SearchAnswer {
     Plan {

@@ -1,8 +1,8 @@
 -- The rows of the tree, the ways to them, and what the prices rise by. Assumes nothing.
-use Rattle.std.proofs.Common.{Option, None, Some, ℕ, zero, suc, ◌+◌, ◌-◌, ◌≤◌, ◌<◌, ◌≡◌, refl, sym, ap, ◌∙◌, ◌⊎◌, inl, inr, ⊎_elim, ◌≢◌, Bool, true, false, List, [], ◌∷◌, not-suc-le-zero, eq-or-lt_of_le, le_of_suc-le-suc, add-one, arith, length, get_or, set, length-set, get_or-set_same, get_or-set_other, eq-eqb, ne_eqb, lt-ltb, le-ltb}
-use Rattle.std.proofs.lemmas.Bool.{cases_lt}
-use mathlib.Core.Bool.{false≢true}
-use native.Mathlib.Decide.{ℕ_discrete}
+use Rattle.std.proofs.Common.{Option, None, Some, ℕ, zero, suc, ◌+◌, ◌-◌, ◌≤◌, ◌<◌, ◌≡◌, refl, sym, ap, ◌∙◌, ◌⊎◌, inl, inr, ⊎_elim, ◌≢◌, Bool, true, false, List, [], ◌∷◌, not-suc-le-zero, eq-or-lt_of_le, le_of_suc-le-suc, add-one, arith, length, take, get_or, get_or-take, length-take-le, ◌++◌, set, length-set, get_or-set_same, get_or-set_other, eq-eqb, ne_eqb, lt-ltb, le-ltb}
+use Rattle.std.proofs.Math.ListN.{get_or-append}
+use Rattle.std.proofs.lemmas.Bool.{false≢true, cases_lt}
+use Rattle.std.proofs.Math.Decide.{ℕ_discrete}
 use Rattle.std.proofs.lemmas.List.{get_or-map}
 use Rattle.meaning.specs.Meaning.{◌at◌}
 use Rattle.prices.specs.Matching.{Put}
@@ -103,22 +103,24 @@ module _ (m r : ℕ) (tasks : List (Option Task)) (columns : List Column) (total
 
 -- the first n of old are raised by f, the others are as they were
 pub record RaisedTo (f : ℕ → ℕ) (old : List ℕ) (n : ℕ) (new : List ℕ) : Type 0 where
-  pub size : length new ≡ 12
+  pub size : length new ≡ length old
   pub done : (k : ℕ) → k < n → new at k ≡ old at k + f k
   pub left : (k : ℕ) → n ≤ k → new at k ≡ old at k
 
-pub raised_none : (f : ℕ → ℕ) (old : List ℕ) → length old ≡ 12 → RaisedTo f old 0 old
-raised_none f old e = record { size = e; done = λ k l. absurd (not-suc-le-zero l); left = λ k l. refl }
+pub raised_none : (f : ℕ → ℕ) (old : List ℕ) → RaisedTo f old 0 old
+raised_none f old = record { size = refl; done = λ k l. absurd (not-suc-le-zero l); left = λ k l. refl }
 
-pub raised_more : (f : ℕ → ℕ) (old : List ℕ) (n : ℕ) (new : List ℕ) (x : ℕ) → n < 12 → x ≡ new at n + f n → RaisedTo f old n new
+pub raised_more : (f : ℕ → ℕ) (old : List ℕ) (n : ℕ) (new : List ℕ) (x : ℕ) → n < length new → x ≡ new at n + f n → RaisedTo f old n new
     → RaisedTo f old (n + 1) (set new n x)
 raised_more f old n new x h e R = record {
   size = length-set new n x ∙ R.size;
-  done = λ k l. ⊎_elim (λ q. rw q (get_or-set_same new n x 0 (rw R.size h) ∙ e ∙ ap (λ (y : ℕ). y + f n) (R.left n (omega arith))))
+  done = λ k l. ⊎_elim (λ q. rw q (get_or-set_same new n x 0 h ∙ e ∙ ap (λ (y : ℕ). y + f n) (R.left n (omega arith))))
       (λ g. get_or-set_other new n k x 0 (omega arith) ∙ R.done k g) (eq-or-lt_of_le (le_of_suc-le-suc (rw add-one at l)));
   left = λ k l. get_or-set_other new n k x 0 (omega arith) ∙ R.left k (omega arith);
 }
 
-pub raised_all : (m : ℕ) (f : ℕ → ℕ) (old : List ℕ) (n : ℕ) (new : List ℕ) → m ≤ n → RaisedTo f old n new
-    → ((k : ℕ) → k < m → new at k ≡ old at k + f k) × (length new ≡ 12)
-raised_all m f old n new h R = (λ k l. R.done k (omega arith), R.size)
+-- of a list the first m, and the rest as it was
+pub raised_all : (m : ℕ) (f : ℕ → ℕ) (old : List ℕ) (n : ℕ) (new rest : List ℕ) → m ≤ length old → m ≤ n → RaisedTo f (take m old) n new
+    → (k : ℕ) → k < m → (new ++ rest) at k ≡ old at k + f k
+raised_all m f old n new rest long h R k l =
+    get_or-append new rest 0 k (omega (arith, R.size, length-take-le m old long)) ∙ R.done k (omega arith) ∙ ap (λ (y : ℕ). y + f k) (get_or-take m old k 0 l)

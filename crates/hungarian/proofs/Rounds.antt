@@ -1,10 +1,10 @@
 -- A round over arrays: the tree of a row begins, grows by the nearest column, and reaches a free one; the way back goes a step, and
 -- ends. Assumes nothing.
 use Rattle.std.proofs.Common.{Option, None, Some, get_or, ℕ, suc, ◌+◌, ◌-◌, ◌≤◌, ◌<◌, ◌^◌, zero-le, ◌≡◌, refl, sym, ap, subst, ◌∙◌, ◌⊎◌, inl, inr, ⊎_elim, ◌≢◌, Bool, true, false, cond, List, not-suc-le-zero, le_refl, arith, length, set, replicate, length-set, get_or-set_same, get_or-set_other, eqb, eq-eqb, ne_eqb}
-use Rattle.std.proofs.lemmas.Bool.{cases_lt, cases_Bool}
-use mathlib.Core.Bool.{false≢true}
-use native.Mathlib.Decide.{ℕ_discrete}
-use lib.ListN.{get_or-replicate}
+use Rattle.std.proofs.lemmas.Bool.{false≢true, cases_lt, cases_Bool}
+use Rattle.std.proofs.Math.Decide.{ℕ_discrete}
+use Rattle.std.proofs.lemmas.List.{get_or-replicate}
+use Rattle.std.proofs.Math.ListN.{get_or-eq_default}
 use Rattle.meaning.specs.Meaning.{◌at◌}
 use Rattle.prices.specs.Matching.{Put, Raised, LeastSlack, Matches, Tree, Bounded}
 use Rattle.prices.specs.Square.{cell}
@@ -22,7 +22,7 @@ use Rattle.hungarian.proofs.Columns.{blank, from_at, column_kept, column_moved}
 use Rattle.hungarian.proofs.Gains.{task_at, put_set, unmarked_set, tree_root, tree_column, tree_none, tree_row, way_root, way_column, gain_in, gain_out}
 
 none_marked : (k : ℕ) → marked (replicate 12 false) k ≡ false
-none_marked k = get_or_same false 12 k
+none_marked k = ⊎_elim (λ l. get_or-replicate 12 k false false l) (λ l. get_or-eq_default (replicate 12 false) false l) (cases_lt k 12)
 
 put_at : (ℕ → ℕ) → ℕ → ℕ → ℕ → ℕ
 put_at f k x i = cond (eqb i k) x (f i)

@@ -11,6 +11,7 @@ use deck::{Carrier, Task};
 use tables::entry;
 
 // The weights of `count` rows and as many columns.
+// Kept: `count` beside an array, since there is no heap, and a working copy has room for twelve.
 #[derive(Clone, Copy)]
 struct Problem<'a> {
     count: usize,
@@ -20,6 +21,7 @@ struct Problem<'a> {
 }
 
 // The prices of the rows, and the negated prices of the columns, so that all are unsigned.
+// Kept: two arrays, of which one is by row and one by column.
 #[derive(Clone, Copy, Debug, PartialEq, Eq)]
 pub struct Prices {
     pub rows: [u64; 12],
@@ -27,6 +29,7 @@ pub struct Prices {
 }
 
 // The task of each carrier and the carrier of each task, where they have one.
+// Kept: two arrays, of which one is by carrier and one by task.
 #[derive(Clone, Copy, Debug, PartialEq, Eq)]
 pub struct Pairs {
     pub tasks: [Option<Task>; 12],
@@ -48,6 +51,7 @@ struct Way {
 }
 
 // A column beside the tree of a row. The way of a marked column, one of the tree, is final.
+// Kept: a flag beside the way, since a column has its way with a mark or without; two variants would have the same way in both.
 #[derive(Clone, Copy, Debug, PartialEq, Eq)]
 struct Column {
     way: Way,
@@ -116,6 +120,7 @@ impl Column {
 
 impl Edge {
     // The nearer of the edge and a column, where that is not marked.
+    // Kept: the mark is what is known of the column, as in `closer_of`, and no choice of a caller's.
     #[tactic(auto, unfolding(crate::specs::Solving::closer_of))]
     fn closer(self, task: Task, marked: bool, near: u64) -> Edge
         ensures { result ≡ closer_of marked near task.0 self }
@@ -190,6 +195,7 @@ impl<'a> Tree<'a> {
     }
 
     // What the price of a row rises by, when the tree stops there.
+    // Kept: `Within` of the pairs, here and in what follows: the way back changes them, so that no tree can have them.
     fn row_gain(&self, pairs: &Pairs, row: Carrier) -> u64
         requires { (row.0 < 12) × Within self.now.problem.count pairs.now × (in_tree self.now.problem.count self.now.root.0 (task_numbers pairs.now.tasks) (marks self.now.columns) row.0 ≡ true → way_to self.now.root.0 (task_numbers pairs.now.tasks) (nears self.now.columns) row.0 ≤ self.now.total) }
         ensures { result ≡ row_gain self.now.problem.count self.now.root.0 (task_numbers pairs.now.tasks) (marks self.now.columns) (nears self.now.columns) self.now.total row.0 }
@@ -209,8 +215,8 @@ impl<'a> Tree<'a> {
         requires fits { (x : ℕ) → x < self.now.problem.count → (in_tree self.now.problem.count self.now.root.0 (task_numbers pairs.now.tasks) (marks self.now.columns) x ≡ true → way_to self.now.root.0 (task_numbers pairs.now.tasks) (nears self.now.columns) x ≤ self.now.total) × (row_price self.now.problem.count self.now.root.0 rows.old (task_numbers pairs.now.tasks) (marks self.now.columns) (nears self.now.columns) self.now.total x < 2 ^ 64) }
         ensures { (x : ℕ) → x < self.now.problem.count → rows.new at x ≡ row_price self.now.problem.count self.now.root.0 rows.old (task_numbers pairs.now.tasks) (marks self.now.columns) (nears self.now.columns) self.now.total x }
     {
-        for x in 0..self.problem.count {
-            rows[x] += self.row_gain(pairs, Carrier(x));
+        for (x, price) in rows[..self.problem.count].iter_mut().enumerate() {
+            *price += self.row_gain(pairs, Carrier(x));
         }
     }
 
@@ -219,12 +225,13 @@ impl<'a> Tree<'a> {
         requires { (y : ℕ) → y < self.now.problem.count → (marked (marks self.now.columns) y ≡ true → nears self.now.columns at y ≤ self.now.total) × (column_price columns.old (marks self.now.columns) (nears self.now.columns) self.now.total y < 2 ^ 64) }
         ensures { (y : ℕ) → y < self.now.problem.count → columns.new at y ≡ column_price columns.old (marks self.now.columns) (nears self.now.columns) self.now.total y }
     {
-        for y in 0..self.problem.count {
-            columns[y] += self.columns[y].gain(self.total);
+        for (y, price) in columns[..self.problem.count].iter_mut().enumerate() {
+            *price += self.columns[y].gain(self.total);
         }
     }
 
     // Grows until the tree reaches a free column, which is handed back.
+    // Kept: a loop without a range, since how often it turns only the weights say.
     fn grow(&mut self, pairs: &Pairs, prices: &mut Prices) -> Task
         requires row { (self.old.root.0 < self.old.problem.count) × (self.old.columns ≡ replicate 12 (column_at false farthest 0)) × (self.old.total ≡ 0) }
         requires within { Within self.old.problem.count pairs.now }

@@ -162,7 +162,7 @@ pub fn write_paths(
     for (i, start) in starts[..m].iter().enumerate() {
         let at = i * size;
         let path = record.path(Carrier(i));
-        pack::unpack(path, w, last, usize::from(*start), &mut out[at..at + size]);
+        pack::unpack(path, w, *start, &mut out[at..at + size]);
     }
 }
 

@@ -101,9 +101,9 @@ place_waits w p zero h = refl
 place_waits w p (suc j) h = rw (place_waits w p j h, shift_zero j, add-zero) (mod-eq_of_lt h)
 
 pub waited : (w p x n : ℕ) (out : List ℕ) → p < 65536 → x ≡ 0 → out ≡ replicate n p
-    → (p ≡ place_from w p x n) × (p < 65536) × (out ≡ tab (λ j. place_from w p x (j + 1)) n)
+    → (p ≡ place_from w p x n) × (out ≡ tab (λ j. place_from w p x (j + 1)) n)
 unfolding tab
-waited w p x n out h z o = (rw z (sym (place_waits w p n h)), h, o ∙ rw z (filled n))
+waited w p x n out h z o = (rw z (sym (place_waits w p n h)), o ∙ rw z (filled n))
   where
     filled : (n : ℕ) → replicate n p ≡ tab (λ j. place_from w p 0 (j + 1)) n
     filled zero = refl

@@ -1,10 +1,10 @@
 -- What is packed is read back. Assumes nothing.
 use Rattle.std.proofs.Common.{◌≡◌, refl, sym, ◌∙◌, ap, Bool, true, false, cond, inl, inr, List, [], ◌∷◌, ◌++◌, ℕ, zero, suc, ◌+◌, ◌*◌, ◌-◌, ◌/◌, ◌%◌, ◌<◌, ◌≤◌, min, add-zero, add-one, arith, eqb, length, get_or, length-append, ext_get_or, eqb-true}
-use native.Mathlib.Nat.{sub-zero}
-use native.Mathlib.Decide.{ℕ_discrete}
-use lib.ListN.{get_or-append}
-use lib.Seq.{get_or_at}
-use borrow.Author.Tests.{eqb-false}
+use Rattle.std.proofs.Math.Nat.{sub-zero}
+use Rattle.std.proofs.Math.Decide.{ℕ_discrete}
+use Rattle.std.proofs.Math.ListN.{get_or-append}
+use Rattle.std.proofs.lemmas.List.{get_or_at}
+use Rattle.std.proofs.lemmas.Bool.{eqb-false}
 use Rattle.pack.specs.Pack.{tab, digit_of, moved_of, step_at, value, word_at, pack_of, shift, step_in, place_in, unpack_of, Step, Walk}
 
 pub length_tab : (f : ℕ → ℕ) (n : ℕ) → length (tab f n) ≡ n

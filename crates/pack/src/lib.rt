@@ -12,10 +12,11 @@ const STEPS: usize = 13;
 
 // The digit of the step from p to q on a grid of width w: wait, up, left, right, down.
 #[tactic(auto, unfolding(crate::specs::Pack::digit_of))]
-fn digit(w: usize, p: usize, q: usize) -> u32
-    requires { (p < 65536) × (q < 65536) × (w ≤ 32) }
+fn digit(w: usize, p: u16, q: u16) -> u32
+    requires { w ≤ 32 }
     ensures { result ≡ digit_of w p q }
 {
+    let (p, q) = (usize::from(p), usize::from(q));
     if q == p {
         0
     } else if q + w == p {
@@ -30,12 +31,13 @@ fn digit(w: usize, p: usize, q: usize) -> u32
 }
 
 // The digit of the step from time t to t + 1.
+// Kept: the path and a time, as `step_at` has them; a slice of two places would have to be said to be those of t.
 #[tactic(auto, unfolding(crate::specs::Pack::step_at))]
 fn step(path: &[u16], w: usize, t: usize) -> u32
     requires { (t + 1 < length path.now) × (w ≤ 32) }
     ensures { result ≡ step_at w path.now t }
 {
-    digit(w, usize::from(path[t]), usize::from(path[t + 1]))
+    digit(w, path[t], path[t + 1])
 }
 
 // How many of the `last` steps are in the word that begins with step `from`.
@@ -46,6 +48,8 @@ fn steps_in(last: usize, from: usize) -> usize
 }
 
 // The word of the n steps from `from` on.
+// Kept: no `fold`, whose closure would repeat that the digits so far fit a word; and times by numbers, since `from` may lie past a
+// short path's end.
 fn chunk(path: &[u16], w: usize, from: usize, n: usize) -> u32
     requires { (n ≤ 13) × (from < 65536) × ((n ≡ 0 → ⊥) → from + n < length path.now) × (w ≤ 32) }
     ensures { result ≡ value (step_at w path.now) from n }
@@ -57,10 +61,12 @@ fn chunk(path: &[u16], w: usize, from: usize, n: usize) -> u32
     word
 }
 
-pub fn pack(path: &[u16], w: usize, last: usize, out: &mut [u32])
-    requires { (length path.now ≡ last + 1) × (w ≤ 32) × (length out.old ≡ 20) }
-    ensures { out.new ≡ pack_of w last path.now }
+// The twenty words of a path on a grid of width w.
+pub fn pack(path: &[u16], w: usize, out: &mut [u32])
+    requires { (0 < length path.now) × (w ≤ 32) × (length out.old ≡ 20) }
+    ensures { out.new ≡ pack_of w (length path.now - 1) path.now }
 {
+    let last = path.len() - 1;
     for (k, word) in out.iter_mut().enumerate() {
         let from = STEPS * k;
         *word = chunk(path, w, from, steps_in(last, from));
@@ -69,38 +75,41 @@ pub fn pack(path: &[u16], w: usize, last: usize, out: &mut [u32])
 
 // The places that the steps of one word lead to from p, one for each element of `out`: the last of them. A step adds one of
 // five differences modulo 65536, so that there is no branch.
-fn steps(word: u32, w: usize, p: usize, out: &mut [u16]) -> usize
-    requires { (p < 65536) × (w ≤ 32) }
-    ensures { (result ≡ place_from w p word (length out.old)) × (result < 65536) × (out.new ≡ tab (λ j. place_from w p word (j + 1)) (length out.old)) }
+fn steps(word: u32, w: usize, p: u16, out: &mut [u16]) -> u16
+    requires { w ≤ 32 }
+    ensures { (result ≡ place_from w p word (length out.old)) × (out.new ≡ tab (λ j. place_from w p word (j + 1)) (length out.old)) }
 {
     let differences = [0, 65536 - w, 65535, 1, w];
     let mut rest = word;
     let mut q = p;
     for place in out.iter_mut() {
-        q = (q + differences[(rest % 5) as usize]) % 65536;
+        let sum = usize::from(q) + differences[(rest % 5) as usize];
+        q = (sum % 65536) as u16;
         rest /= 5;
-        *place = q as u16;
+        *place = q;
     }
     q
 }
 
 // The same for any word. A word of waits, as all words past a path's finish are, is filled without a look at its digits.
-fn stretch(word: u32, w: usize, p: usize, out: &mut [u16]) -> usize
-    requires { (p < 65536) × (w ≤ 32) }
-    ensures { (result ≡ place_from w p word (length out.old)) × (result < 65536) × (out.new ≡ tab (λ j. place_from w p word (j + 1)) (length out.old)) }
+fn stretch(word: u32, w: usize, p: u16, out: &mut [u16]) -> u16
+    requires { w ≤ 32 }
+    ensures { (result ≡ place_from w p word (length out.old)) × (out.new ≡ tab (λ j. place_from w p word (j + 1)) (length out.old)) }
 {
     if word == 0 {
-        out.fill(p as u16);
+        out.fill(p);
         return p;
     }
     steps(word, w, p, out)
 }
 
-pub fn unpack(words: &[u32], w: usize, last: usize, start: usize, out: &mut [u16])
-    requires { (length words.now ≡ 20) × (w ≤ 32) × (last < 260) × (start < 65536) × (length out.old ≡ last + 1) }
-    ensures { out.new ≡ unpack_of w last words.now start }
+// The path of twenty words, one place for each element of `out`.
+pub fn unpack(words: &[u32], w: usize, start: u16, out: &mut [u16])
+    requires { (length words.now ≡ 20) × (w ≤ 32) × (0 < length out.old) × (length out.old ≤ 260) }
+    ensures { out.new ≡ unpack_of w (length out.old - 1) words.now start }
 {
-    out[0] = start as u16;
+    let last = out.len() - 1;
+    out[0] = start;
     let mut p = start;
     let mut at = 0;
     // Kept: no `chunks_mut`, whose contract says nothing of what is written through it.

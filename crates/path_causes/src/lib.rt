@@ -21,6 +21,7 @@ fn good_tail(sheet: AcceptedSheet, kind: usize, v: usize, t: usize) -> bool
 }
 
 // The record k keeps the rules of cause 9.
+// Kept: the list and a record's number, as the definition has them; a slice of five words would have to be said to be that record.
 #[tactic(auto, unfolding(deck::specs::Calls::good_record))]
 fn good_record(sheet: AcceptedSheet, records: &[u16], k: usize) -> bool
     requires { (k < 4096) × (k < length records.now / 5) }

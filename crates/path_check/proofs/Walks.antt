@@ -1,5 +1,5 @@
 -- A path at one time, against what the definitions say of the path from that time on. Assumes nothing.
-use Rattle.std.proofs.Common.{ℕ, suc, ◌+◌, ◌≤◌, ◌<◌, ◌≡◌, refl, sym, ap, ◌∙◌, ◌⊎◌, inl, inr, Bool, true, false, List, eq-or-lt_of_le, arith, length, get_or, drop, eqb, T, add-one, eq-eqb, ne_eqb}
+use Rattle.std.proofs.Common.{ℕ, zero, ◌-◌, ◌≢◌, suc, ◌+◌, ◌≤◌, ◌<◌, ◌≡◌, refl, sym, ap, ◌∙◌, ◌⊎◌, inl, inr, Bool, true, false, List, eq-or-lt_of_le, arith, length, get_or, drop, eqb, T, add-one, eq-eqb, ne_eqb}
 use Rattle.deck.specs.Lists.{is_nil}
 use Rattle.deck.specs.Sheet.{Sheet}
 use Rattle.deck.specs.Paths.{may_step, visit, left}
@@ -40,6 +40,19 @@ module _ (x : ℕ) (gs : List ℕ) (n count : ℕ) (all : count ≡ length gs) w
   pub visit_over : count ≤ n → visit x (drop n gs) ≡ drop n gs
   unfolding visit
   visit_over h = rw (rest_none 0 gs n (omega arith))
+
+-- the goals from the k-th on that are x, up to the n-th, which is not
+module _ (x : ℕ) (gs : List ℕ) (n : ℕ) (inside : n ≤ length gs) (next : n < length gs → get_or gs n 0 ≢ x) where
+  visit_from : (d k : ℕ) → d + k ≡ n → ((m : ℕ) → k ≤ m → m < n → get_or gs m 0 ≡ x) → visit x (drop k gs) ≡ drop n gs
+  visit_from zero k e h = let q : k ≡ n = omega arith in rw q (here (eq-or-lt_of_le inside))
+    where
+      here : (n ≡ length gs) ⊎ (n < length gs) → visit x (drop n gs) ≡ drop n gs
+      here (inl z) = visit_over x gs n (length gs) refl (omega arith)
+      here (inr l) = visit_stop x gs n (length gs) refl l (next l)
+  visit_from (suc d) k e h = visit_next x gs k (length gs) refl (omega arith) (h k (omega arith) (omega arith)) ∙ visit_from d (k + 1) (omega arith) (λ m a b. h m (omega arith) b)
+
+  pub visit_run : (k : ℕ) → k ≤ n → ((m : ℕ) → k ≤ m → m < n → get_or gs m 0 ≡ x) → visit x (drop k gs) ≡ drop n gs
+  visit_run k l h = visit_from (n - k) k (omega arith) h
 
 -- the goals that are left from time t on
 module _ (p gs : List ℕ) (t : ℕ) where

@@ -38,35 +38,39 @@ impl<'a> Grid<'a> {
     }
 
     // The grid byte of the place v, 0 past the grid.
-    fn byte(self, v: usize) -> u8
+    // Kept: 0 as in the definition `grid_byte`, which `may_leave` asks of the place that is left, whatever its number.
+    fn byte(self, v: u16) -> u8
         ensures { result ≡ grid_byte (read self.entry.sheet.now) v }
     {
-        self.bytes.get(v).map_or(0, |byte| *byte)
+        self.bytes.get(usize::from(v)).map_or(0, |byte| *byte)
     }
 
     // v is a place of the grid that is not blocked.
-    fn is_free(self, v: usize) -> bool
+    fn is_free(self, v: u16) -> bool
         ensures { result ≡ free (read self.entry.sheet.now) v }
     {
-        self.bytes.get(v).is_some_and(|byte| *byte != 1)
+        self.bytes
+            .get(usize::from(v))
+            .is_some_and(|byte| *byte != 1)
     }
 
     // v is next to u in the same row or column.
     #[tactic(auto, unfolding(deck::specs::Paths::next_to))]
-    fn next_to(self, u: usize, v: usize) -> bool
+    fn next_to(self, u: u16, v: u16) -> bool
         ensures { result ≡ next_to self.entry.width u v }
     {
         let w = self.width;
+        let (u, v) = (usize::from(u), usize::from(v));
         u / w == v / w && one_apart(u % w, v % w) || u % w == v % w && one_apart(u / w, v / w)
     }
 
     // A place u with the grid byte b may be left to v: a lane only to the north, east, south or west, any other place to every side.
     #[tactic(auto, unfolding(deck::specs::Paths::may_leave))]
-    fn may_leave(self, b: u8, u: usize, v: usize) -> bool
-        requires { (u < 65536) × (v < 65536) }
+    fn may_leave(self, b: u8, u: u16, v: u16) -> bool
         ensures { result ≡ may_leave self.entry.width b u v }
     {
         let w = self.width;
+        let (u, v) = (usize::from(u), usize::from(v));
         match b {
             2 => v / w + 1 == u / w,
             3 => u % w + 1 == v % w,
@@ -78,8 +82,7 @@ impl<'a> Grid<'a> {
 
     // v is beside u, seen from u: next to it, and u may be left to it.
     #[tactic(auto, unfolding(deck::specs::Paths::beside))]
-    fn is_beside(self, u: usize, v: usize) -> bool
-        requires { (u < 65536) × (v < 65536) }
+    fn is_beside(self, u: u16, v: u16) -> bool
         ensures { result ≡ beside (read self.entry.sheet.now) u v }
     {
         self.next_to(u, v) && self.may_leave(self.byte(u), u, v)
@@ -87,8 +90,7 @@ impl<'a> Grid<'a> {
 
     // A step may go from u to v.
     #[tactic(auto, unfolding(deck::specs::Paths::may_step))]
-    fn may_step(self, u: usize, v: usize) -> bool
-        requires { (u < 65536) × (v < 65536) }
+    fn may_step(self, u: u16, v: u16) -> bool
         ensures { result ≡ may_step (read self.entry.sheet.now) u v }
     {
         u == v || self.is_free(v) && self.is_beside(u, v)
@@ -99,6 +101,6 @@ impl<'a> Grid<'a> {
         ensures passed { result ≡ true → (t : ℕ) → t + 1 < length path.now → may_step (read self.entry.sheet.now) (get_or path.now t 0) (get_or path.now (t + 1) 0) ≡ true }
         ensures failed { result ≡ false → (t : ℕ) × (t + 1 < length path.now) × (may_step (read self.entry.sheet.now) (get_or path.now t 0) (get_or path.now (t + 1) 0) ≡ false) }
     {
-        path.windows(2).all(|step| self.may_step(usize::from(step[0]), usize::from(step[1])))
+        path.windows(2).all(|step| self.may_step(step[0], step[1]))
     }
 }

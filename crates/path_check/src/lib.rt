@@ -14,19 +14,19 @@ use deck::{Carrier, Task};
 use grid::Grid;
 use sheet::AcceptedSheet;
 
-// How many goals are visited once the carrier is on x, where k were visited before.
+// How many goals are visited once the carrier is on x, where k were visited before: up to the first from there on that is not x.
+#[tactic(auto, using(sheet_parts::proofs::Words::length_words))]
 fn visited(goals: &[u8], x: usize, k: usize) -> usize
     requires { k ≤ length (words goals.now) }
+    ensures onward { k ≤ result }
     ensures upper_bound { result ≤ length (words goals.now) }
-    ensures goals_value { visit x (drop k (words goals.now)) ≡ drop result (words goals.now) }
+    ensures passed { (n : ℕ) → k ≤ n → n < result → get_or (words goals.now) n 0 ≡ x }
+    ensures next { result < length (words goals.now) → get_or (words goals.now) result 0 ≢ x }
 {
     let count = goals.len() / 2;
-    for n in k..count {
-        if sheet_parts::nth_word(goals, n) != x {
-            return n;
-        }
-    }
-    count
+    (k..count)
+        .find(|n| sheet_parts::nth_word(goals, *n) != x)
+        .unwrap_or(count)
 }
 
 // The path visits the goals in order. Their words are handed in, so that the sheet's directory is not read for every place.
@@ -41,6 +41,7 @@ fn visits_all(goals: &[u8], path: &[u16]) -> bool
 }
 
 // The least time from which the path stays on g; the length of the path where there is none.
+// Kept: a length, as the definition `finish_of` has it, so that the finish of any path is a time or no time of it.
 fn finish(path: &[u16], g: usize) -> usize
     ensures in_path { result ≤ length path.now }
     ensures rests { (t : ℕ) → result ≤ t → t < length path.now → get_or path.now t 0 ≡ g }

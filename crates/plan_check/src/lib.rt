@@ -26,6 +26,8 @@ fn apart(m: usize, h: usize, paths: &[u16]) -> bool
 }
 
 // The flowtime if each carrier's words are a path for its task.
+// Kept: a loop with `?`, since the contract of a sum of options does not say that there is none where one of them is none; and each
+// path by its carrier's number, which names the task too.
 fn flowtime(s: &[u8], tasks: &[u8; 12], paths: &[u16]) -> Option<usize>
     requires { (sheet_cause s.now ≡ None) × (length paths.now ≡ count_of s.now * suc (horizon_of s.now)) }
     ensures { result ≡ flow_answer (read s.now) (take (count_of s.now) tasks.now) (pieces (count_of s.now) (suc (horizon_of s.now)) paths.now) }

@@ -294,7 +294,7 @@ pub fn put_path(
     let at = SIZE * n;
     let from = at + (PATHS + PATH_SIZE * i.0);
     work[at + (FINISHES + i.0)] = finish as u32;
-    pack::pack(path, w, last, &mut work[from..from + PATH_SIZE]);
+    pack::pack(path, w, &mut work[from..from + PATH_SIZE]);
 }
 
 // Writes the record of a root without its paths: every slot is empty, every finish 0.

@@ -1,9 +1,9 @@
 -- What a sheet without causes gives, beyond the laws of the crate meaning: the ranges of the header, the grid's length, starts and goals
 -- on free places of the grid, how many goals a task has, and the bound on the workspace. Assumes nothing.
 use Rattle.std.proofs.Common.{ℕ, suc, ◌-◌, ◌%◌, ◌≤◌, ◌<◌, ◌≡◌, refl, ◌∙◌, Bool, List, [], map, mul-le-mul, arith, T, leb, leb→le, length, get_or, length-take, length-drop, None}
-use native.Mathlib.Decide.{dec_le}
-use native.Mathlib.Nat.{one-le-mul}
-use lib.ListN.{get_or-eq_default}
+use Rattle.std.proofs.Math.Decide.{dec_le}
+use Rattle.std.proofs.Math.Nat.{one-le-mul}
+use Rattle.std.proofs.Math.ListN.{get_or-eq_default}
 use Rattle.deck.specs.declared.Stretch.{Stretch}
 use Rattle.deck.specs.Lists.{below, all, distinct}
 use Rattle.deck.specs.Sheet.{Sheet, area, grid_byte, carrier, task, start_of, goals_of, last_goal, most_goals, count_of, part, grid_pair, task_pair, grid_stretch, task_stretch, read, free, goals_size, good_grid, good_starts, good_goals, cause}

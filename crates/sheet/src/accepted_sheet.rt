@@ -76,6 +76,7 @@ impl<'a> AcceptedSheet<'a> {
     }
 
     // The place at which the carrier i starts, 0 past the last start.
+    // Kept: 0 as in the definition `start_of`; callers ask for carriers below m, and have no use for an Option.
     pub fn start(&self, i: Carrier) -> usize
         ensures value { result ≡ start_of (read self.now.bytes.now) i }
         ensures range { result < area (read self.now.bytes.now) }
@@ -93,6 +94,7 @@ impl<'a> AcceptedSheet<'a> {
     }
 
     // The goal k of the task j, counted from 0; 0 past its last.
+    // Kept: 0 as in `sheet::goal`; callers count k below `goal_count`, and have no use for an Option.
     pub fn goal(&self, j: Task, k: usize) -> usize
         ensures value { result ≡ get_or (goals_of (read self.now.bytes.now) j) k 0 }
         ensures range { result < area (read self.now.bytes.now) }
@@ -101,6 +103,7 @@ impl<'a> AcceptedSheet<'a> {
     }
 
     // The last goal of the task j, 0 where it has none.
+    // Kept: 0 as in the definition `last_goal`, for a task that is not below m; each that is has a last goal.
     pub fn last_goal(&self, j: Task) -> usize
         ensures value { result ≡ last_goal (read self.now.bytes.now) j }
         ensures range { result < area (read self.now.bytes.now) }

@@ -29,14 +29,15 @@ pub fn check(s: &[u8]) -> Result<(), Cause>
 }
 
 // Of an accepted sheet the header and the directory's pairs; nowhere past the last pair.
+// Kept: `sheet_cause`, here and where others ask for it, since a sheet of no bytes has no cause either and is no `AcceptedSheet`.
 fn reading_of(s: &[u8]) -> Reading
     requires { sheet_cause s.now ≡ None }
     ensures { result ≡ reading_of s.now }
 {
     let nowhere = Stretch { offset: 0, size: 0 };
     let mut pairs = [nowhere; MOST_PAIRS];
-    for k in 0..sheet_parts::pairs(s) {
-        pairs[k] = sheet_parts::pair_at(s, k);
+    for (k, pair) in pairs[..sheet_parts::pairs(s)].iter_mut().enumerate() {
+        *pair = sheet_parts::pair_at(s, k);
     }
     Reading {
         width: width(s),
@@ -49,6 +50,7 @@ fn reading_of(s: &[u8]) -> Reading
 }
 
 // The sheet reader: the header and the directory's pairs, or the cause.
+#[tactic(auto, using(meaning::proofs::Accepted::none_of_ok, meaning::proofs::Accepted::cause_of_err), unfolding(deck::specs::Calls::read_call))]
 pub fn read(s: &[u8]) -> Result<Reading, Cause>
     ensures { result ≡ read_call s.now }
 {
@@ -57,6 +59,7 @@ pub fn read(s: &[u8]) -> Result<Reading, Cause>
 }
 
 // A task's goals: that stretch of the sheet itself; on any cause, 1 to 8, the empty stretch at the sheet's start.
+#[tactic(auto, using(meaning::proofs::Accepted::none_of_ok, meaning::proofs::Accepted::cause_of_err, sheet_parts::proofs::Tasks::goals_accepted, sheet_parts::proofs::Tasks::goals_refused, sheet_parts::proofs::Tasks::part_begins))]
 pub fn task_goals<'a>(s: &'a [u8], j: Task) -> &'a [u8]
     ensures result_value { result.now ≡ part s.now (goals_call s.now j) }
     ensures begins_at { BeginsAt (goals_call s.now j).offset s.entry result }
@@ -77,6 +80,8 @@ pub fn grid_offset(s: &[u8]) -> usize
 
 // The grid byte of the place v, 0 past the grid. Of an accepted sheet: 0 free, 1 blocked, and 2, 3, 4 or 5 a free place that may be
 // left only to the north, east, south or west.
+// Kept: 0 as in the definition `grid_byte`, which is promised of any place.
+#[tactic(auto, using(crate::proofs::Accepted::grid_byte_lem))]
 pub fn grid_byte(s: &[u8], v: usize) -> u8
     ensures value { result ≡ grid_byte (read s.now) v }
     ensures upper_bound { cause s.now ≡ None → result ≤ 5 }
@@ -85,6 +90,8 @@ pub fn grid_byte(s: &[u8], v: usize) -> u8
 }
 
 // The place at which the carrier i starts, 0 past the last start.
+// Kept: 0 as in the definition `start_of`, which is promised of any carrier's number.
+#[tactic(auto, using(crate::proofs::Accepted::start_on_grid))]
 pub fn start(s: &[u8], i: Carrier) -> usize
     ensures value { result ≡ start_of (read s.now) i }
     ensures upper_bound { cause s.now ≡ None → result < area (read s.now) }
@@ -94,6 +101,7 @@ pub fn start(s: &[u8], i: Carrier) -> usize
 }
 
 // How many goals the task j has.
+#[tactic(auto, using(crate::proofs::Accepted::goals_range, crate::proofs::Accepted::goals_at_most))]
 pub fn goal_count(s: &[u8], j: Task) -> usize
     ensures value { result ≡ length (goals_of (read s.now) j) }
     ensures upper_bound { cause s.now ≡ None → result ≤ 8 }
@@ -103,6 +111,8 @@ pub fn goal_count(s: &[u8], j: Task) -> usize
 }
 
 // The goal k of the task j, counted from 0; 0 past its last.
+// Kept: 0 as in the clause, which is of any task and any k; a caller that counts k below `goal_count` does not meet it.
+#[tactic(auto, using(crate::proofs::Accepted::goal_on_grid))]
 pub fn goal(s: &[u8], j: Task, k: usize) -> usize
     ensures value { result ≡ get_or (goals_of (read s.now) j) k 0 }
     ensures upper_bound { cause s.now ≡ None → result < area (read s.now) }
@@ -112,6 +122,8 @@ pub fn goal(s: &[u8], j: Task, k: usize) -> usize
 }
 
 // The last goal of the task j, 0 where it has none.
+// Kept: 0 as in the definition `last_goal`, which is promised of any task's number; no task of an accepted sheet is without goals.
+#[tactic(auto, using(crate::proofs::Accepted::last_goal_on_grid))]
 pub fn last_goal(s: &[u8], j: Task) -> usize
     ensures value { result ≡ last_goal (read s.now) j }
     ensures upper_bound { cause s.now ≡ None → result < area (read s.now) }
@@ -125,14 +137,14 @@ fn most_goals(s: &[u8]) -> usize
     ensures value { result ≡ most_goals (read s.now) }
     ensures upper_bound { result < 32768 }
 {
-    let mut most = 0;
-    for j in 0..count(s) {
-        most = sheet_parts::goals_number(s, Task(j)).max(most);
-    }
-    most
+    (0..count(s))
+        .map(|j| sheet_parts::goals_number(s, Task(j)))
+        .max()
+        .unwrap_or(0)
 }
 
 // The words of 32 bits of workspace by the formula.
+#[tactic(auto, unfolding(deck::specs::Calls::workspace_for))]
 fn formula(s: &[u8]) -> usize
     ensures { result ≡ workspace_for (read s.now) }
 {
@@ -142,6 +154,7 @@ fn formula(s: &[u8]) -> usize
 }
 
 // How many words of 32 bits of workspace the sheet asks for: none without carriers.
+#[tactic(auto, using(meaning::proofs::Dark::with_carriers, meaning::proofs::Dark::workspace_with, meaning::proofs::Dark::workspace_without, crate::proofs::Accepted::workspace_bound))]
 pub fn workspace(s: &[u8]) -> usize
     ensures value { result ≡ workspace_of (read s.now) }
     ensures upper_bound { sheet_cause s.now ≡ None → result < 8388608 }

@@ -20,6 +20,7 @@ fn in_range(x: usize, low: usize, high: usize) -> bool
 }
 
 // Each header byte is in its range (else cause 2). Every byte 3 is.
+#[tactic(auto, using(sheet_parts::proofs::Words::zero_word, crate::proofs::Tests::all_bytes, crate::proofs::Tests::and_assoc), unfolding(deck::specs::Sheet::good_header))]
 fn header_good(s: &[u8]) -> bool
     ensures { result ≡ good_header s.now }
 {
@@ -32,6 +33,7 @@ fn header_good(s: &[u8]) -> bool
 }
 
 // The first stretch begins where the directory ends, each next where the previous one ends, and the last ends at the sheet's end.
+#[tactic(auto, using(crate::proofs::Chain::chain_ends, crate::proofs::Chain::chain_breaks, crate::proofs::Chain::chain_goes_on))]
 fn pairs_chained(s: &[u8]) -> bool
     ensures { result ≡ chained s.now (pairs_for (count_of s.now)) 0 (directory_end s.now) }
 {
@@ -47,6 +49,7 @@ fn pairs_chained(s: &[u8]) -> bool
 }
 
 // A task's length is even, 2 to 16.
+#[tactic(auto, unfolding(deck::specs::Sheet::goals_size))]
 fn size_good(n: usize) -> bool
     ensures { result ≡ goals_size n }
 {
@@ -60,6 +63,7 @@ fn sizes_good(s: &[u8]) -> bool
 }
 
 // The directory is whole and each pair keeps its rule (else cause 3).
+#[tactic(auto, unfolding(deck::specs::Sheet::good_directory))]
 fn directory_good(s: &[u8]) -> bool
     ensures { result ≡ good_directory s.now }
 {
@@ -89,12 +93,7 @@ fn again<F: Fn(usize) -> usize>(n: usize, place: F, x: usize, from: usize) -> bo
     requires { F.IsAlwaysCallable place }
     ensures { (l : List ℕ) → n ≡ length l → ((k y : ℕ) → F.post place k y → y ≡ get_or l k 0) → result ≡ has x (drop from l) }
 {
-    for k in from..n {
-        if place(k) == x {
-            return true;
-        }
-    }
-    false
+    (from..n).any(|k| x == place(k))
 }
 
 // No two of n places are the same.
@@ -102,16 +101,15 @@ fn all_differ<F: Fn(usize) -> usize>(n: usize, place: F) -> bool
     requires { F.IsAlwaysCallable place }
     ensures { (l : List ℕ) → n ≡ length l → ((k y : ℕ) → F.post place k y → y ≡ get_or l k 0) → result ≡ distinct l }
 {
-    for k in 0..n {
-        let x = place(k);
-        if again(n, &place, x, k + 1) {
-            return false;
-        }
-    }
-    true
+    (0..n).all(
+        |k|
+            requires { (k < n) × F.IsAlwaysCallable place }
+        { !again(n, &place, place(k), k + 1) },
+    )
 }
 
 // Each start is on the grid, not blocked and not shared (else cause 5).
+#[tactic(auto, using(sheet_parts::proofs::Words::length_words), unfolding(deck::specs::Sheet::good_starts))]
 fn starts_good(s: &[u8]) -> bool
     ensures { result ≡ good_starts (read s.now) }
 {
@@ -127,6 +125,7 @@ fn goals_good(s: &[u8]) -> bool
 }
 
 // No two tasks have one last goal (else cause 7).
+#[tactic(auto, using(sheet_parts::proofs::Tasks::each_task_length, sheet_parts::proofs::Tasks::each_task_at), unfolding(deck::specs::Sheet::good_last_goals))]
 fn last_goals_good(s: &[u8]) -> bool
     ensures { result ≡ good_last_goals (read s.now) }
 {
@@ -134,6 +133,7 @@ fn last_goals_good(s: &[u8]) -> bool
 }
 
 // The cause where its test fails.
+// Kept: the flag is a test's answer, so that the tests stay functions of their own that a definition states.
 fn unless(good: bool, cause: Cause) -> Result<(), Cause>
     ensures { MatchResult result (λ _. good ≡ true) (λ c. (good ≡ false) × (c ≡ cause)) }
 {
@@ -141,6 +141,7 @@ fn unless(good: bool, cause: Cause) -> Result<(), Cause>
 }
 
 // The tests of a sheet that has bytes, 1 to 7. Causes are tried in the table's order.
+#[tactic(auto, unfolding(deck::specs::Sheet::cause))]
 fn check_bytes(s: &[u8]) -> Result<(), Cause>
     ensures { result ≡ answer_unless (cause s.now) tt }
 {
@@ -154,6 +155,7 @@ fn check_bytes(s: &[u8]) -> Result<(), Cause>
 }
 
 // The first cause that lies in the sheet itself, or that it is accepted. A sheet of no bytes, the dark house, is.
+#[tactic(auto, using(meaning::proofs::Dark::cause_without, meaning::proofs::Dark::cause_with))]
 pub fn check(s: &[u8]) -> Result<(), Cause>
     ensures { result ≡ answer_unless (sheet_cause s.now) tt }
 {

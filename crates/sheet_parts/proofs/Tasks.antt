@@ -1,7 +1,8 @@
 -- Laws of a task's goals: those of the task's stretch, and none where there is no such task. Assumes nothing.
 use Rattle.std.proofs.Common.{ℕ, ◌≤◌, ◌<◌, ◌≡◌, refl, ◌∙◌, subst, List, [], map, zero-add, arith, length, get_or, lt-ltb, le-ltb, None, Some}
-use native.Mathlib.Decide.{dec_le}
-use lib.ListN.{length-map, get_or-eq_default, get_or-map}
+use Rattle.std.proofs.Math.Decide.{dec_le}
+use Rattle.std.proofs.lemmas.List.{length-map}
+use Rattle.std.proofs.Math.ListN.{get_or-eq_default, get_or-map}
 use Rattle.deck.specs.declared.cause.Cause.{Cause}
 use Rattle.deck.specs.Lists.{below}
 use Rattle.deck.specs.Sheet.{count_of, task, task_pair, task_stretch, part, words, read, goals_of, sheet_cause}

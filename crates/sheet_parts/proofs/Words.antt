@@ -1,8 +1,8 @@
 -- Laws of two-byte values, and of a stretch that is cut off where the sheet ends. Assumes nothing.
 use Rattle.std.proofs.Common.{ℕ, zero, suc, ◌+◌, ◌*◌, ◌-◌, ◌/◌, ◌≤◌, ◌<◌, min, ◌≡◌, refl, sym, ◌∙◌, ap, ◌&&◌, List, [], ◌∷◌, not-suc-le-zero, suc-ne-zero, mul-le-mul, arith, eqb, length, get_or, take, drop, length-drop, drop_of_length-le, take_all, ne_eqb}
-use native.Mathlib.Decide.{dec_le}
-use lib.ListN.{get_or-eq_default}
-use lib.Seq.{take-nil}
+use Rattle.std.proofs.Math.Decide.{dec_le}
+use Rattle.std.proofs.Math.ListN.{get_or-eq_default}
+use Rattle.std.proofs.Math.Seq.{take-nil}
 use Rattle.deck.specs.Lists.{last}
 use Rattle.deck.specs.Sheet.{word_at, words}
 

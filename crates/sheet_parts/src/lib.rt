@@ -28,6 +28,7 @@ pub const STARTS: usize = 1;
 pub const TASKS: usize = 2;
 
 // The byte k, 0 past the end.
+// Kept: 0 as in the definition `byte_at`, which is of any bytes; each caller would turn an Option into it.
 fn byte_at(s: &[u8], k: usize) -> usize
     ensures value { result ≡ byte_at s.now k }
     ensures upper_bound { result < 256 }
@@ -48,6 +49,8 @@ pub fn word_at(s: &[u8], k: usize) -> usize
 }
 
 // The header: w, h, m, H and N.
+// Kept: a function for each value, since each promises a definition of its own; one that takes the byte's place would promise none of
+// them.
 pub fn width(s: &[u8]) -> usize
     ensures value { result ≡ width_of s.now }
     ensures upper_bound { result < 256 }
@@ -55,6 +58,7 @@ pub fn width(s: &[u8]) -> usize
     byte_at(s, WIDTH)
 }
 
+// Kept: apart from `width`, since it promises `height_of`.
 pub fn height(s: &[u8]) -> usize
     ensures value { result ≡ height_of s.now }
     ensures upper_bound { result < 256 }
@@ -62,6 +66,7 @@ pub fn height(s: &[u8]) -> usize
     byte_at(s, HEIGHT)
 }
 
+// Kept: apart from `width`, since it promises `count_of`.
 pub fn count(s: &[u8]) -> usize
     ensures value { result ≡ count_of s.now }
     ensures upper_bound { result < 256 }
@@ -69,6 +74,7 @@ pub fn count(s: &[u8]) -> usize
     byte_at(s, COUNT)
 }
 
+// Kept: apart from `width`, since it promises `horizon_of`.
 pub fn horizon(s: &[u8]) -> usize
     ensures value { result ≡ horizon_of s.now }
     ensures upper_bound { result < 256 }
@@ -125,6 +131,9 @@ pub fn stretch<'a>(s: &'a [u8], k: usize) -> &'a [u8]
 }
 
 // The word i of a list of two-byte values, 0 past the last.
+// Kept: 0 as in the definitions of a start and a goal, which are of any number; an Option would be turned into it wherever one is
+// promised.
+#[tactic(auto, using(crate::proofs::Words::words_at, crate::proofs::Words::words_past))]
 pub fn nth_word(p: &[u8], i: usize) -> usize
     ensures value { result ≡ get_or (words p.now) i 0 }
     ensures upper_bound { result < 65536 }
@@ -137,6 +146,8 @@ pub fn nth_word(p: &[u8], i: usize) -> usize
 }
 
 // The last of the two-byte values p, 0 where there is none.
+// Kept: 0 as in the definition `last_goal`, which is of any task's number, and so of one without goals.
+#[tactic(auto, using(crate::proofs::Words::length_words, crate::proofs::Words::last_of))]
 pub fn last_word(p: &[u8]) -> usize
     ensures value { result ≡ last 0 (words p.now) }
     ensures upper_bound { result < 65536 }
@@ -145,21 +156,22 @@ pub fn last_word(p: &[u8]) -> usize
 }
 
 // The stretch of the task j, empty at the sheet's start where there is no such task.
+#[tactic(auto, using(crate::proofs::Tasks::goals_there, crate::proofs::Tasks::no_goals), unfolding(deck::specs::Sheet::words))]
 pub fn task_part<'a>(s: &'a [u8], j: Task) -> &'a [u8]
     ensures result_value { result.now ≡ part s.now (task_part s.now j) }
     ensures begins_at { (task_part s.now j).offset ≤ length s.now → BeginsAt (task_part s.now j).offset s.entry result }
     ensures result_value_2 { words result.now ≡ goals_of (read s.now) j }
     ensures result_len_bound { length result.now < 65536 }
 {
-    let k = j.0;
-    if k < count(s) {
-        stretch(s, TASKS + k)
+    if j.0 < count(s) {
+        stretch(s, TASKS + j.0)
     } else {
         &s[0..0]
     }
 }
 
 // How many goals the task j has.
+#[tactic(auto, using(crate::proofs::Words::length_words))]
 pub fn goals_number(s: &[u8], j: Task) -> usize
     ensures value { result ≡ length (goals_of (read s.now) j) }
     ensures upper_bound { result < 32768 }
@@ -176,6 +188,7 @@ pub fn area(s: &[u8]) -> usize
 }
 
 // The grid byte of the place v, 0 past the grid.
+// Kept: 0 as in the definition `grid_byte`; whether there is such a place `is_free` asks by the area.
 pub fn grid_byte(s: &[u8], v: usize) -> u8
     ensures { result ≡ grid_byte (read s.now) v }
 {

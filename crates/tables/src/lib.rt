@@ -12,6 +12,7 @@ ghost use Rattle.tables.specs.Copies.{part_of, weight_of, Weighed};
 
 use deck::{Carrier, Task};
 
+// Kept: a number for a barred entry, since document 01 has it in the tables that callers lend.
 pub const BARRED: u16 = 65535;
 
 // Heavier than any sum of 12 entries that are not barred.
@@ -19,6 +20,7 @@ pub const HEAVY: u64 = 786409;
 
 // A part of the assignments that remain: the carriers before `row` keep their tasks, carrier `row` has none that is closed, for
 // which `closed` is not 0.
+// Kept: two arrays, since `tasks` is by carrier and `closed` by task.
 #[derive(Clone, Copy, Debug, PartialEq, Eq)]
 pub struct Part {
     pub tasks: [u8; 12],
@@ -27,6 +29,9 @@ pub struct Part {
 }
 
 // The number for a carrier and a task in a square of twelve to a row.
+// Kept: one array of 144, which document 01 asks for; its places are counted here and in `put`, and nowhere else.
+// Kept: carrier and task by a bound, here and in the crates above, since a call may be handed any number of each; a second type for
+// those below 12 would be made of the first wherever one is read from a list.
 pub fn entry<T: Copy>(square: &[T; 144], carrier: Carrier, task: Task) -> T
     requires { (carrier.0 < 12) × (task.0 < 12) }
     ensures { slice_get square.now (carrier.0 * 12 + task.0) ≡ Some result }
@@ -35,6 +40,7 @@ pub fn entry<T: Copy>(square: &[T; 144], carrier: Carrier, task: Task) -> T
 }
 
 // The number x for a carrier and a task.
+// Kept: a place of the array, as in `entry`.
 pub fn put<T: Copy>(square: &mut [T; 144], carrier: Carrier, task: Task, x: T)
     requires { (carrier.0 < 12) × (task.0 < 12) }
     ensures { square.new ≡ set square.old (carrier.0 * 12 + task.0) x }
@@ -63,6 +69,7 @@ pub fn square<T: Copy, F: Fn(Carrier, Task) -> T>(m: usize, rest: T, number: F) 
 }
 
 // The entry of a table of m by m.
+// Kept: the table as the C interface lends it, a list with m to a row, and so a carrier and a task below m.
 fn table_entry(m: usize, table: &[u16], carrier: Carrier, task: Task) -> u16
     requires { (m ≤ 12) × (carrier.0 < m) × (task.0 < m) × (length table.now ≡ m * m) }
     ensures { result ≡ entry_at m table.now carrier.0 task.0 }
@@ -79,6 +86,7 @@ pub fn task_of(tasks: &[u8; 12], carrier: Carrier) -> Task
 }
 
 // The working copy of a table of m by m entries, filled for m carriers.
+// Kept: barred past m, since document 01 asks for a copy that is an array of barred entries at first.
 pub fn filled(m: usize, table: &[u16]) -> [u16; 144]
     requires { (m ≤ 12) × (length table.now ≡ m * m) }
     ensures { copied m result ≡ table.now }
@@ -92,6 +100,7 @@ pub fn filled(m: usize, table: &[u16]) -> [u16; 144]
 
 impl Part {
     // The entry x for a carrier and a task in the part's working copy: barred where no assignment of the part uses it.
+    // Kept: an entry of 16 bits like the others, so that a part's copy is a table again.
     #[tactic(auto, unfolding(partition::specs::Parts::part_entry))]
     fn entry(&self, carrier: Carrier, task: Task, x: u16) -> u16
         requires { (self.now.row.0 < 12) × (task.0 < 12) }
@@ -111,6 +120,7 @@ impl Part {
     }
 
     // The part's working copy of a table.
+    // Kept: barred past m, as in `filled`.
     pub fn table(&self, m: usize, table: &[u16; 144]) -> [u16; 144]
         requires { (m ≤ 12) × (self.now.row.0 < 12) }
         ensures { copied m result ≡ part_table m (copied m table.now) (part_of self.now) }
@@ -122,6 +132,7 @@ impl Part {
 }
 
 // The weight of an entry.
+// Kept: a barred entry has a weight like the others, so that the method needs no case for it.
 #[tactic(auto, unfolding(prices::specs::Weights::weigh))]
 pub fn weigh(x: u16) -> u64
     ensures { (result ≡ weigh_of x) × (x ≤ 65535) × (result ≤ heavy) }

@@ -1,5 +1,5 @@
 -- The word of the number says whether it has a choice of its own. Assumes nothing.
-use Rattle.std.proofs.Common.{◌∙◌, ap}
+use Rattle.std.proofs.Common.{◌∙◌, ap, arith}
 use Rattle.records.specs.Record.{tournament_in}
 use Rattle.roots.proofs.Codes.{no_own, some_own}
 use Rattle.roots.proofs.own_of.Goals as goal

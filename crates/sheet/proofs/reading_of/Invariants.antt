@@ -1,7 +1,8 @@
--- The array holds the pairs passed, and nowhere after them.
-use Rattle.std.proofs.Common.{◌≡◌}
-use Rattle.sheet.proofs.Readings.{pairs_to}
+-- The first pairs are written.
+use Rattle.std.proofs.Common.{◌≡◌, map, take}
+use Rattle.deck.specs.Lists.{below}
+use Rattle.deck.specs.Sheet.{pair_at}
 use Rattle.sheet.proofs.reading_of.Given as goal
 
 abbrev pub invariant-loop-k : goal.invariant-loop-k
-invariant-loop-k l = l.pairs ≡ pairs_to l.s l.k
+invariant-loop-k l = take l.k l.pair-items ≡ map (pair_at l.s) (below l.k)

@@ -7,4 +7,4 @@ pub loop-k-preserved : goal.loop-k-preserved
 loop-k-preserved g c =
     let fits : SFits w32 c.price.result = record { sfits = c.price.type_inv } in
     let own = subst (λ (z : ℤ). g.F.Fn.post c.args.price (c.loop-k.k, tt {0}) z) (sym (to_z-of_z fits)) c.price.ensures in
-    (omega arith, prices_more _ c.loop-k.k c.loop-k.prices _ (omega (arith, c.requires.few)) own c.loop-k.invariant.1)
+    prices_more _ c.loop-k.k c.loop-k.own-items _ (omega arith) own c.loop-k.invariant

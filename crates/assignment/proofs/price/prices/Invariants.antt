@@ -1,7 +1,6 @@
 -- `assignment::price::prices` meets its contract. Assumes nothing.
-use Rattle.std.proofs.Common.{◌≤◌}
 use Rattle.assignment.proofs.Priced.{PricesTo}
 use Rattle.assignment.proofs.price.prices.Given as goal
 
 abbrev pub invariant-loop-k : goal.invariant-loop-k
-invariant-loop-k g l = (l.k ≤ l.m) × PricesTo (λ k y. goal.F-post g l.price k y) l.k l.prices
+invariant-loop-k g l = PricesTo (λ k y. goal.F-post g l.price k y) l.k l.own-items

@@ -7,4 +7,4 @@ use Rattle.hungarian.proofs.Tree.raise_columns.Given as goal
 
 abbrev pub invariant-loop-y : goal.invariant-loop-y
 invariant-loop-y l =
-    (l.y ≤ l.self.problem.count) × RaisedTo (λ k. gain_of (marked (marks l.self.columns) k) (nears l.self.columns at k) l.self.total) l.initial.columns l.y l.columns
+    (l.y ≤ l.self.problem.count) × RaisedTo (λ k. gain_of (marked (marks l.self.columns) k) (nears l.self.columns at k) l.self.total) l.initial.price-items l.y l.price-items

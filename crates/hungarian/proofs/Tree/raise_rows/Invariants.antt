@@ -6,4 +6,4 @@ use Rattle.hungarian.proofs.Tree.raise_rows.Given as goal
 
 abbrev pub invariant-loop-x : goal.invariant-loop-x
 invariant-loop-x l =
-    (l.x ≤ l.self.problem.count) × RaisedTo (row_gain l.self.problem.count l.self.root.0 (task_numbers l.pairs.tasks) (marks l.self.columns) (nears l.self.columns) l.self.total) l.initial.rows l.x l.rows
+    (l.x ≤ l.self.problem.count) × RaisedTo (row_gain l.self.problem.count l.self.root.0 (task_numbers l.pairs.tasks) (marks l.self.columns) (nears l.self.columns) l.self.total) l.initial.price-items l.x l.price-items
