@@ -1,10 +1,6 @@
 -- What the bytes of a mask let through. Assumes nothing.
 use Prim.Native.Nat.{ℕ, zero, suc, ◌≤◌, ◌<◌, min}
-use mathlib.Core.Path.{◌≡◌, refl, sym, subst}
-use mathlib.Core.Logic.{◌≢◌}
-use mathlib.Core.Bool.{Bool, true, false, cond, ◌&&◌, ◌||◌, not}
-use native.Mathlib.Omega.{arith}
-use lib.Dec.{T, ltb, eqb}
+use Rattle.std.proofs.Common.{◌≡◌, refl, sym, subst, ◌≢◌, Bool, true, false, cond, ◌&&◌, ◌||◌, not, arith, T, ltb, eqb}
 use Rattle.deck.specs.Sheet.{Sheet, area, grid_byte, free}
 use Rattle.kernel.proofs.Both.{and_right}
 use Rattle.bars.specs.Padded.{shade, Gate}

@@ -2,11 +2,8 @@
 -- grid's edge lies the border. Assumes nothing.
 use Rattle.std.proofs.lemmas.Bool.{cases_lt}
 use Prim.Native.Nat.{ℕ, suc, ◌+◌, ◌-◌, ◌*◌, ◌/◌, ◌%◌, ◌≤◌, ◌<◌}
-use mathlib.Core.Path.{◌≡◌, sym, ap, ◌∙◌}
-use mathlib.Core.Logic.{⊎_elim}
-use native.Mathlib.Nat.{mod-lt, div-add-mod', suc-mul, add-mul, mul-add, mul-le-mul, mul_comm, mul-le-mul_right, add-div_right, mul-add-div_right, div-eq_of_lt, div-lt_iff_lt-mul}
-use native.Mathlib.Omega.{arith}
-use lib.Dec.{T, leb→le, le→leb, ltb→lt, lt→ltb}
+use Rattle.std.proofs.Common.{◌≡◌, sym, ap, ◌∙◌, ⊎_elim, mod-lt, div-add-mod', suc-mul, add-mul, mul-add, mul-le-mul, mul_comm, mul-le-mul_right, div-lt_iff_lt-mul, arith, T, leb→le, le→leb, ltb→lt, lt→ltb}
+use Rattle.std.proofs.Math.Nat.{add-div_right, mul-add-div_right, div-eq_of_lt}
 use Rattle.deck.specs.Sheet.{Sheet, area}
 use Rattle.kernel.specs.Near.{has_above, has_left, has_right, has_below}
 use Rattle.kernel.proofs.Near.{wide_of, left_row, right_row}

@@ -1,16 +1,9 @@
 -- The five ways from a place: where they lead, on the grid and on the padded grid, and back; the steps by them; and the first
 -- that passes a test. Assumes nothing.
 use Prim.Native.Nat.{ℕ, zero, suc, ◌+◌, ◌-◌, ◌*◌, ◌/◌, ◌%◌, ◌≤◌, ◌<◌}
-use mathlib.Core.Path.{◌≡◌, refl, sym, ap, ap₂, ◌∙◌, subst}
-use mathlib.Core.Logic.{◌⊎◌, inl, inr, ⊎_elim, ◌≢◌, ◌↔◌}
-use mathlib.Core.Bool.{Bool, true, false, cond, ◌&&◌, ◌||◌}
-use mathlib.Core.List.Memᴰ.{not-nil}
-use mathlib.Core.List.{List, [], ◌∷◌, Memᴰ as Mem}
-use native.Mathlib.Nat.{mod-le, mod-lt, eq-or-lt_of_le}
-use native.Mathlib.Omega.{arith}
-use lib.ListN.{get_or}
-use lib.Dec.{T, eqb, leb→le, le→leb, ltb→lt, lt→ltb}
-use borrow.Author.Tests.{eq-eqb, ne_eqb}
+use Rattle.std.proofs.Common.{◌≡◌, refl, sym, ap, ap₂, ◌∙◌, subst, ◌⊎◌, inl, inr, ⊎_elim, ◌≢◌, ◌↔◌, Bool, true, false, cond, ◌&&◌, ◌||◌, List, [], ◌∷◌, mod-lt, eq-or-lt_of_le, arith, get_or, T, eqb, leb→le, le→leb, ltb→lt, lt→ltb, eq-eqb, ne_eqb}
+use Rattle.deck.proofs.Members.{not-nil, Mem}
+use Rattle.std.proofs.Math.Nat.{mod-le}
 use Rattle.deck.specs.Sheet.{Sheet, area, grid_byte, free}
 use Rattle.deck.specs.Paths.{may_leave}
 use Rattle.meaning.specs.Meaning.{NextTo, Beside, Free}

@@ -1,15 +1,10 @@
 -- What is cleared along a chain is what the carrier's constraints bar. Assumes nothing.
-use Rattle.std.proofs.Common.{ℕ, zero, suc, ◌+◌, ◌≤◌, ◌<◌, ◌≡◌, refl, sym, ap, ◌∙◌, subst, Bool, true, false, cond, not, List, [], ◌∷◌, length, get_or, Option, Some, None, T, eqb, arith}
+use Rattle.std.proofs.Common.{ℕ, zero, suc, ◌+◌, ◌≤◌, ◌<◌, ◌≡◌, refl, sym, ap, ◌∙◌, subst, Bool, true, false, cond, not, List, [], ◌∷◌, length, get_or, Option, Some, None, T, eqb, arith, ◌⊎◌, inl, inr, ⊎_elim, set, length-set, get_or-set_same, get_or-set_other, eqb-true}
 use Rattle.std.proofs.lemmas.Bool.{cases_lt}
 use Rattle.std.specs.List.{list_all}
-use mathlib.Core.List.{Memᴰ as Mem}
-use mathlib.Core.Logic.{◌⊎◌, inl, inr, ⊎_elim}
-use mathlib.Core.List.Memᴰ.{head as here}
-use mathlib.Core.List.Memᴰ.{tail as there}
-use native.Mathlib.Decide.{ℕ_discrete}
-use lib.ListN.{set, length-set, get_or-eq_default}
-use lib.Seq.{get_or-set_same, get_or-set_other}
-use borrow.Author.Tests.{eqb-true}
+use Rattle.deck.proofs.Members.{Mem, here, there}
+use Rattle.std.proofs.Math.Decide.{ℕ_discrete}
+use Rattle.std.proofs.Math.ListN.{get_or-eq_default}
 use Rattle.deck.specs.Sheet.{carrier}
 use Rattle.deck.specs.Calls.{constraints_of}
 use Rattle.deck.specs.declared.Constraint.{Constraint}

@@ -1,6 +1,5 @@
 -- The way of a step between two padded places. Assumes nothing.
-use Rattle.std.proofs.Common.{ℕ, zero, suc, ◌+◌, ◌<◌, ◌≡◌, ◌≢◌, refl, get_or, arith}
-use borrow.Author.Tests.{eq-eqb, ne_eqb}
+use Rattle.std.proofs.Common.{ℕ, zero, suc, ◌+◌, ◌<◌, ◌≡◌, ◌≢◌, refl, get_or, arith, eq-eqb, ne_eqb}
 use Rattle.bars.specs.Ways.{number_of, all_ways}
 use Rattle.bars.specs.Bars.{way_of}
 use Rattle.bars.specs.declared.Way.{Way}

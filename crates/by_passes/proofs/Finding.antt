@@ -1,12 +1,6 @@
 -- From the least time to the answer and the words of the call. Assumes nothing.
 use Prim.Native.Nat.{ℕ, suc, ◌+◌, ◌-◌, ◌*◌, max, ◌≤◌, ◌<◌, zero-le}
-use mathlib.Core.Path.{◌≡◌, refl, sym, ap, ◌∙◌}
-use mathlib.Core.Bool.{Bool, true}
-use mathlib.Core.List.{List}
-use native.Mathlib.Nat.{mul-le-mul}
-use native.Mathlib.Omega.{arith}
-use lib.Dec.{leb, ltb, leb→le}
-use borrow.Author.Tests.{ltb-true}
+use Rattle.std.proofs.Common.{◌≡◌, refl, sym, ap, ◌∙◌, Bool, true, List, mul-le-mul, arith, leb, ltb, leb→le, ltb-true}
 use Rattle.deck.specs.Sheet.{Sheet, read, area, start_of, last_goal, most_goals}
 use Rattle.deck.specs.Paths.{least_path}
 use Rattle.deck.specs.Calls.{constraints_of, workspace_for, path_found, path_written, overwrite}

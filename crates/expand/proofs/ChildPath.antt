@@ -1,15 +1,8 @@
 -- The least path of a child, as the search's definition has it, and what it leaves of the workspace. Assumes nothing.
 use Prim.Native.Nat.{ℕ, suc, ◌+◌, ◌*◌, ◌<◌, ◌≤◌}
-use mathlib.Core.Path.{◌≡◌, refl, sym, ap, ap₂, subst, ◌∙◌}
-use mathlib.Core.Bool.{Bool, true, false, cond}
-use mathlib.Core.List.Memᴰ.{head as here}
-use mathlib.Core.List.Memᴰ.{tail as there}
-use mathlib.Core.List.{List, [], ◌∷◌, Memᴰ as Mem}
+use Rattle.std.proofs.Common.{◌≡◌, refl, sym, ap, ap₂, subst, ◌∙◌, Bool, true, false, cond, List, [], ◌∷◌, arith, length, get_or, take, drop, take_at, le-ltb, lt-ltb}
+use Rattle.deck.proofs.Members.{here, there, Mem}
 use Rattle.std.specs.Prelude.{Option, None, Some}
-use native.Mathlib.Omega.{arith}
-use lib.ListN.{length, get_or, take, drop}
-use lib.Seq.{take_at}
-use borrow.Author.Tests.{le-ltb, lt-ltb}
 use Rattle.deck.specs.Lists.{select, each}
 use Rattle.deck.specs.Sheet.{Sheet, carrier, task, start_of}
 use Rattle.deck.specs.Paths.{walks, least_path, finish_of}

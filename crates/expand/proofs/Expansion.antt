@@ -1,12 +1,7 @@
 -- The nodes of an expansion, one after the other: what each step leaves for the next, and what all come to. Assumes nothing.
 use Prim.Native.Nat.{ℕ, ◌+◌, ◌<◌, ◌≤◌}
-use mathlib.Core.Path.{◌≡◌, refl, sym, ap, subst, ◌∙◌}
-use mathlib.Core.Bool.{Bool, true, false}
-use mathlib.Core.List.{List, [], ◌∷◌}
+use Rattle.std.proofs.Common.{◌≡◌, refl, sym, ap, subst, ◌∙◌, Bool, true, false, List, [], ◌∷◌, arith, length, ltb}
 use Rattle.std.specs.Prelude.{Option, None, Some}
-use native.Mathlib.Omega.{arith}
-use lib.ListN.{length}
-use lib.Dec.{ltb}
 use Rattle.deck.specs.Sheet.{Sheet}
 use Rattle.deck.specs.Search.{Problem, Node, State, Turn, more, task_of, rest_after, root_of, child_node}
 use Rattle.deck.specs.Planner.{problem}

@@ -15,6 +15,7 @@ use Rattle.deck.specs.declared.Task.{Task}
 use Rattle.deck.specs.declared.Constraint.{Constraint}
 use Rattle.meaning.proofs.Assignments.{table_at}
 use Rattle.meaning.specs.Making.{added}
+use Rattle.meaning.proofs.Constraints.{no_records}
 use Rattle.meaning.proofs.LeastPath.{LeastMeant, least_path_meant}
 use Rattle.prices.specs.Square.{cell}
 use Rattle.prices.proofs.Squares.{square_at}
@@ -51,10 +52,6 @@ module _ (g : Given) (work : List ℕ) (room : Room g work) where
 pub none_bound : constraints_of [] ≡ []
 unfolding constraints_of
 none_bound = refl
-
-pub none_good : (d : Sheet) → T (good_records d [])
-unfolding good_records
-none_good d = tt
 
 -- nodes stay as they were where nothing is done, and through two steps
 pub same_none : (d : Sheet) (work : List ℕ) (made : ℕ) → Same d work work made
@@ -171,7 +168,7 @@ module _ {n : ℕ} (i : Carrier) {a : List ℕ} {st : State (List ℕ) Constrain
     task_in = subst (λ (t : Task). t.0 < d.count) (sym is_task) low
 
     pub root_ready : Ready s i k mask []
-    root_ready = record { accepted = g.sheet.now.accepted; carrier_in = b; task_in = task_in; masked = g.masked; records = none_good d }
+    root_ready = record { accepted = g.sheet.now.accepted; carrier_in = b; task_in = task_in; masked = g.masked; records = no_records d }
 
     pub root_bound : {x : ℕ} → x ≡ cell table i.0 k.0 → NoEarlier d i k (constraints_of []) x
     unfolding entry_of

@@ -21,12 +21,9 @@ use Rattle.passes.proofs.Turning.{turned_goals}
 use Rattle.passes.proofs.Passing.{holds_same, hind_first, hind_next, back_on, zeros_margin}
 use Rattle.finishes.specs.Entries.{starts_in, steps_in, Unknown, Starts, steps, Marks, Column, Whole, Passing}
 use Rattle.finishes.specs.declared.entry.Entry.{Entry}
+use Rattle.meaning.proofs.Constraints.{no_records}
 use Rattle.finishes.specs.Serves.{Serving, Serves}
 use Rattle.finishes.proofs.Marks.{marked_none, marked_more, column_full, column_last}
-
-no_records : (d : Sheet) → T (good_records d [])
-unfolding good_records
-no_records d = tt
 
 module _ (s : List ℕ) (ok : cause s ≡ None) (j : Task) (pass : Pass) (v : Serves s j pass) where
   abbrev d : Sheet

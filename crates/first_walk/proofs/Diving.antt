@@ -1,14 +1,6 @@
 -- The answer of the walk from a place, by what the code finds. Assumes nothing.
 use Prim.Native.Nat.{ℕ, suc, ◌+◌, ◌≤◌, ◌<◌}
-use mathlib.Core.Path.{◌≡◌, sym, ap, ◌∙◌, subst}
-use mathlib.Core.Logic.{⊎_elim, ◌≢◌}
-use mathlib.Core.Bool.{Bool, true, false}
-use mathlib.Core.List.{List}
-use native.Mathlib.Nat.{eq-or-lt_of_le}
-use native.Mathlib.Omega.{arith}
-use lib.ListN.{length, set, length-set}
-use lib.Dec.{T, eqb, eqb→eq}
-use borrow.Author.Tests.{eq-eqb}
+use Rattle.std.proofs.Common.{◌≡◌, sym, ap, ◌∙◌, subst, ⊎_elim, ◌≢◌, Bool, true, false, List, eq-or-lt_of_le, arith, length, set, length-set, T, eqb, eqb→eq, eq-eqb}
 use Rattle.kernel.proofs.Both.{and_left, and_right}
 use Rattle.deck.specs.Sheet.{Sheet, read, last_goal}
 use Rattle.deck.specs.Calls.{constraints_of}

@@ -1,14 +1,6 @@
 -- A look by one of the five ways: what each test says. Assumes nothing.
 use Prim.Native.Nat.{ℕ, suc, ◌+◌, ◌-◌, ◌*◌, ◌≤◌, ◌<◌}
-use mathlib.Core.Path.{◌≡◌, refl, sym, ap, ◌∙◌, subst}
-use mathlib.Core.Logic.{◌≢◌}
-use mathlib.Core.Bool.{Bool, true, false, ◌&&◌}
-use mathlib.Core.List.{List}
-use native.Mathlib.Numerals.{add-one}
-use native.Mathlib.Omega.{arith}
-use lib.ListN.{length, get_or}
-use lib.Dec.{T, eqb, ltb→lt}
-use borrow.Author.Tests.{eqb-true}
+use Rattle.std.proofs.Common.{◌≡◌, refl, sym, ap, ◌∙◌, subst, ◌≢◌, Bool, true, false, ◌&&◌, List, add-one, arith, length, get_or, T, eqb, ltb→lt, eqb-true}
 use Rattle.std.specs.Prelude.{Some}
 use Rattle.deck.specs.Sheet.{Sheet, read, area, free, last_goal}
 use Rattle.deck.specs.Calls.{constraints_of}

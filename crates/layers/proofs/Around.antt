@@ -1,10 +1,6 @@
 -- The greatest label around a place of the grid, by the way from each of the five places. Assumes nothing.
 use Prim.Native.Nat.{ℕ, suc, ◌<◌, max, min}
-use mathlib.Core.Path.{◌≡◌, refl, sym, ap, ◌∙◌}
-use mathlib.Core.Bool.{Bool, true, false, cond, ◌&&◌}
-use mathlib.Core.List.{List}
-use native.Mathlib.Omega.{arith}
-use lib.Dec.{T}
+use Rattle.std.proofs.Common.{◌≡◌, refl, sym, ap, ◌∙◌, Bool, true, false, cond, ◌&&◌, List, arith, T}
 use Rattle.deck.specs.Sheet.{Sheet, area}
 use Rattle.kernel.specs.Layers.{best}
 use Rattle.kernel.specs.Near.{cons_if, near}

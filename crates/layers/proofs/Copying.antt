@@ -1,7 +1,6 @@
 -- The masks of the five ways, copied one after the other. Assumes nothing.
-use Rattle.std.proofs.Common.{ℕ, ◌+◌, ◌*◌, ◌≤◌, ◌<◌, ◌≡◌, sym, ap, ◌∙◌, subst, List, length, get_or, arith, rules}
+use Rattle.std.proofs.Common.{ℕ, ◌+◌, ◌*◌, ◌≤◌, ◌<◌, ◌≡◌, sym, ap, ◌∙◌, subst, List, length, get_or, arith, rules, ⊎_elim}
 use Rattle.std.proofs.lemmas.List.{places}
-use mathlib.Core.Logic.{⊎_elim}
 use borrow.Rule.Slice.PartMut.{put_mid}
 use Rattle.layers.proofs.Fills.{up_to}
 

@@ -1,13 +1,8 @@
 -- Bytes of the mask in the code's tests, of a lane and of a way's bit, and the doors made of them. Assumes nothing.
 use Prim.Native.Nat.{ℕ, ◌+◌, ◌-◌, ◌*◌, ◌≤◌, max, min}
-use mathlib.Core.Path.{◌≡◌, refl, sym, subst}
-use mathlib.Core.Logic.{⊎_elim, ◌≢◌}
+use Rattle.std.proofs.Common.{◌≡◌, refl, sym, subst, ⊎_elim, ◌≢◌, Bool, true, false, cond, List, arith, get_or}
 use Rattle.std.specs.Prelude.{Option, None, Some}
 use Rattle.std.specs.Borrow.{Bor}
-use mathlib.Core.Bool.{Bool, true, false, cond}
-use mathlib.Core.List.{List}
-use native.Mathlib.Omega.{arith}
-use lib.ListN.{get_or}
 use Rattle.bars.specs.Ways.{turn_of, opens_by}
 use Rattle.layers.specs.Fill.{Filled}
 use Rattle.layers.specs.Step.{Plain, door_at, Doors, Passable, bytes_of}

@@ -1,10 +1,6 @@
 -- A layer that is kept is read back, and stays where other words are written. Assumes nothing.
 use Prim.Native.Nat.{ℕ, zero, suc, ◌+◌, ◌-◌, ◌*◌, ◌/◌, ◌%◌, ◌^◌, ◌≤◌, ◌<◌}
-use mathlib.Core.Path.{◌≡◌, refl, ap, ◌∙◌}
-use mathlib.Core.List.{List}
-use native.Mathlib.Nat.{mul-add, add-mul, mul-le-mul_right}
-use native.Mathlib.Omega.{arith}
-use lib.ListN.{get_or}
+use Rattle.std.proofs.Common.{◌≡◌, refl, ap, ◌∙◌, List, mul-add, add-mul, mul-le-mul_right, arith, get_or}
 use Rattle.deck.specs.Sheet.{Sheet, area}
 use Rattle.bars.specs.Padded.{pad_of, Holds}
 use Rattle.bars.proofs.Grid.{pad_least, pad_most}

@@ -1,6 +1,6 @@
 -- A record more is a node more of the search's definition: a child, and a root. Assumes nothing.
 use Rattle.std.proofs.Common.{◌≡◌, refl, sym, ◌∙◌, ap, ap₂, subst, Bool, true, false, List, [], ◌∷◌, ◌++◌, map, ℕ, suc, ◌+◌, ◌*◌, ◌<◌, ◌≤◌, ◌%◌, mod-eq_of_lt, zero-add, add-one, arith, ltb, length, get_or, set, length-set, get_or-set_same, get_or-set_other, ne_eqb, ltb-true, ltb-false}
-use mathlib.Core.List.{Memᴰ as Mem}
+use Rattle.deck.proofs.Members.{Mem}
 use Rattle.std.proofs.Math.Decide.{ℕ_discrete}
 use Rattle.deck.specs.Lists.{count_from, sum, select}
 use Rattle.deck.specs.Sheet.{Sheet, carrier, start_of}

@@ -1,7 +1,6 @@
 -- The constraints along the links. Assumes nothing.
 use Rattle.std.proofs.Common.{◌≡◌, refl, sym, ◌∙◌, ap, List, [], ◌∷◌, ℕ, zero, suc, ◌-◌, ◌<◌, ◌≤◌, arith, length}
-use mathlib.Core.List.Memᴰ.{head as here, not-nil, tail as there}
-use mathlib.Core.List.{Memᴰ as Mem}
+use Rattle.deck.proofs.Members.{here, not-nil, there, Mem}
 use Rattle.deck.specs.Sheet.{Sheet}
 use Rattle.deck.specs.declared.Constraint.{Constraint}
 use Rattle.records.specs.Record.{fields_at, link_in, own_in}

@@ -5,7 +5,7 @@ use Rattle.deck.specs.Calls.{constraints_of, constraint_at, record_word}
 use Rattle.deck.specs.declared.Carrier.{Carrier}
 use Rattle.deck.specs.declared.Constraint.{Constraint}
 use Rattle.std.specs.Prelude.{Some, None}
-use Rattle.std.proofs.lemmas.List.{get_or_append_left}
+use Rattle.std.proofs.lemmas.List.{get_or_append_left, map-append}
 use Rattle.std.proofs.lemmas.Option.{same_Some, none-some}
 use Rattle.std.proofs.lemmas.Slice.{take-put_mid}
 use borrow.Rule.Slice.PartMut.{put_mid}
@@ -16,7 +16,6 @@ use Rattle.nodes.specs.Listed.{recorded, Appended}
 use Rattle.nodes.specs.declared.constraint_list.ConstraintList.{ConstraintList}
 use Rattle.records.specs.declared.Origin.{Origin}
 use Rattle.nodes.specs.Stored.{Linked}
-use Rattle.std.proofs.lemmas.List.{map-append}
 use Rattle.nodes.proofs.Tables.{map_same, count_snoc, select_append}
 use Rattle.nodes.proofs.Chains.{Links, chain_up, chain_root}
 

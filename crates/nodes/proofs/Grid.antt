@@ -2,7 +2,7 @@
 -- carrier alone. Assumes nothing.
 use Rattle.std.specs.Prelude.{Option, None, Some}
 use Rattle.std.proofs.Common.{◌≡◌, refl, sym, ◌∙◌, ap, subst, inl, inr, Bool, true, false, cond, ◌&&◌, List, [], ◌∷◌, ℕ, zero, suc, ◌+◌, ◌*◌, ◌/◌, ◌%◌, ◌<◌, ◌≤◌, div-add-mod', suc-mul, add-one, arith, length, get_or, ltb, ltb-true, ltb-false}
-use mathlib.Core.List.{Memᴰ as Mem}
+use Rattle.deck.proofs.Members.{Mem}
 use Rattle.std.proofs.Math.ListN.{get_or-eq_default}
 use Rattle.deck.specs.Lists.{all, select, take_least}
 use Rattle.deck.specs.Sheet.{Sheet, area, start_of, carrier}

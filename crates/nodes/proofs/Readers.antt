@@ -1,7 +1,7 @@
 -- What the readers of a record say of its node, and what the gathered records are to the path call. Assumes nothing.
 use Rattle.std.specs.Prelude.{None}
 use Rattle.std.proofs.Common.{◌≡◌, refl, sym, ◌∙◌, ap, Bool, true, false, ◌&&◌, List, [], ◌∷◌, ◌++◌, ℕ, ◌+◌, ◌*◌, ◌-◌, ◌/◌, ◌%◌, ◌<◌, ◌≤◌, mul-le-mul_left, mul-le-mul_right, arith, T, eqb, leb, ltb, le→leb, lt→ltb, length, get_or, take, drop, replicate, length-append, length-drop, take-append-drop, get_or-take, get_or-drop, ext_get_or, length-take-le}
-use mathlib.Core.List.{Memᴰ as Mem}
+use Rattle.deck.proofs.Members.{Mem}
 use Rattle.std.proofs.lemmas.List.{length-replicate, get_or-replicate}
 use Rattle.deck.specs.Lists.{below, all, each}
 use Rattle.deck.specs.Sheet.{Sheet, area, carrier, task, cause, read}

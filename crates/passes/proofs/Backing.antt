@@ -1,7 +1,5 @@
 -- The layers of the backward pass in the workspace: each has room, and writing one leaves the others. Assumes nothing.
-use Rattle.std.proofs.Common.{ℕ, suc, ◌+◌, ◌-◌, ◌*◌, ◌≤◌, ◌<◌, ◌≡◌, ap, ap₂, ◌∙◌, subst, List, length, get_or, ltb, arith}
-use mathlib.Core.Logic.{⊎_elim}
-use native.Mathlib.Nat.{eq-or-lt_of_le, mul-le-mul, mul-le-mul_right, suc-mul}
+use Rattle.std.proofs.Common.{ℕ, suc, ◌+◌, ◌-◌, ◌*◌, ◌≤◌, ◌<◌, ◌≡◌, ap, ap₂, ◌∙◌, subst, List, length, get_or, ltb, arith, ⊎_elim, eq-or-lt_of_le, mul-le-mul, mul-le-mul_right, suc-mul}
 use Rattle.sheet.proofs.Accepted.{start_on_grid}
 use Rattle.deck.specs.Sheet.{read, area, start_of, goals_of}
 use Rattle.deck.specs.Calls.{constraints_of}

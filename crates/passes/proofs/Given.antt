@@ -1,10 +1,7 @@
 -- What a ready sheet with good records gives. Assumes nothing.
 use Prim.Native.Nat.{ℕ, zero, suc, ◌/◌, ◌%◌, ◌≤◌, ◌<◌}
-use mathlib.Core.Path.{◌≡◌, sym, ◌∙◌, subst}
-use mathlib.Core.List.{List, Memᴰ as Mem}
-use native.Mathlib.Omega.{arith}
-use lib.ListN.{length}
-use lib.Dec.{T, leb, ltb, eqb, eqb→eq, leb→le, ltb→lt}
+use Rattle.std.proofs.Common.{◌≡◌, sym, ◌∙◌, subst, List, arith, length, T, leb, ltb, eqb, eqb→eq, leb→le, ltb→lt}
+use Rattle.deck.proofs.Members.{Mem}
 use Rattle.deck.specs.Lists.{below}
 use Rattle.deck.specs.Sheet.{Sheet, read, area, free, carrier, start_of, goals_of, last_goal}
 use Rattle.deck.specs.Calls.{record_word, constraint_of, constraints_of, good_tail, good_record, good_records}

@@ -1,6 +1,6 @@
 -- The passes on a course, in the numbers of the code. Assumes nothing.
 use Rattle.std.proofs.Common.{ℕ, Bool, suc, ◌+◌, ◌-◌, ◌*◌, ◌≤◌, ◌<◌, ◌≡◌, sym, ap, ◌∙◌, subst, true, false, ◌&&◌, List, reverse, length, get_or, replicate, ltb, leb, arith}
-use lib.ListN.{length-reverse}
+use Rattle.std.proofs.lemmas.List.{length-reverse}
 use Rattle.deck.specs.Sheet.{start_of, last_goal, goals_of}
 use Rattle.sheet.proofs.Accepted.{start_on_grid, last_goal_on_grid}
 use Rattle.kernel.specs.Kernel.{hind}

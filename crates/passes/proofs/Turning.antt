@@ -1,12 +1,9 @@
 -- Lists of padded goals filled from the front, and turned round. Assumes nothing.
 use Prim.Native.Nat.{ℕ, suc, ◌+◌, ◌-◌, ◌≤◌, ◌<◌}
-use mathlib.Core.Path.{◌≡◌, sym, ap, ◌∙◌, subst}
-use mathlib.Core.Logic.{⊎_elim}
-use mathlib.Core.List.{List, [], ◌∷◌, ◌++◌, reverse, reverse-cons}
-use native.Mathlib.Nat.{eq-or-lt_of_le}
-use native.Mathlib.Omega.{arith}
-use lib.ListN.{length, get_or, set, take, length-reverse, get_or-append}
-use lib.Seq.{get_or-set_same, get_or-set_other, get_or-append-add, get_or-take, length-take-le}
+use Rattle.std.proofs.Common.{◌≡◌, sym, ap, ◌∙◌, subst, ⊎_elim, List, [], ◌∷◌, ◌++◌, reverse, eq-or-lt_of_le, arith, length, get_or, set, take, get_or-set_same, get_or-set_other, get_or-append-add, get_or-take, length-take-le}
+use mathlib.Core.List.{reverse-cons}
+use Rattle.std.proofs.lemmas.List.{length-reverse}
+use Rattle.std.proofs.Math.ListN.{get_or-append}
 use Rattle.bars.specs.Padded.{pad_of}
 use Rattle.layers.specs.Raise.{GoalsAt, Indexes}
 

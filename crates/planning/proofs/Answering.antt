@@ -1,12 +1,9 @@
 -- From an accepted sheet to the answer: the starts, the first root, and the answer of the search's end. Assumes nothing.
 use Prim.Native.Nat.{ℕ, ◌+◌, ◌<◌, ◌≤◌}
-use mathlib.Core.Path.{◌≡◌, refl, sym, ap, ◌∙◌}
-use mathlib.Core.List.{List, [], ◌∷◌}
+use Rattle.std.proofs.Common.{◌≡◌, refl, sym, ap, ◌∙◌, List, [], ◌∷◌, arith, length, get_or, set, get_or-set_same, get_or-set_other}
 use Rattle.std.specs.Prelude.{Option, None, Some}
-use native.Mathlib.Decide.{ℕ_discrete, dec_le}
-use native.Mathlib.Omega.{arith}
-use lib.ListN.{length, get_or, set, get_or-eq_default}
-use lib.Seq.{get_or-set_same, get_or-set_other}
+use Rattle.std.proofs.Math.Decide.{ℕ_discrete, dec_le}
+use Rattle.std.proofs.Math.ListN.{get_or-eq_default}
 use Rattle.deck.specs.Lists.{flat, head_of}
 use Rattle.deck.specs.Sheet.{Sheet, read, cause}
 use Rattle.deck.specs.Assignments.{assignments_in_order, least_assignment, table_of}

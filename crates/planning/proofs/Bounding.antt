@@ -1,10 +1,7 @@
 -- The lower bounds of all tasks, task by task. Assumes nothing.
 use Prim.Native.Nat.{ℕ, ◌+◌, ◌-◌, ◌*◌, ◌≤◌, ◌<◌}
-use mathlib.Core.Path.{◌≡◌, refl, sym, subst, ◌∙◌}
-use mathlib.Core.List.{List}
-use native.Mathlib.Decide.{ℕ_discrete}
-use native.Mathlib.Omega.{arith}
-use lib.ListN.{length, take, drop}
+use Rattle.std.proofs.Common.{◌≡◌, refl, sym, subst, ◌∙◌, List, arith, length, take, drop}
+use Rattle.std.proofs.Math.Decide.{ℕ_discrete}
 use Rattle.deck.specs.Sheet.{Sheet, task}
 use Rattle.deck.specs.declared.Task.{Task}
 use Rattle.bounds.specs.Low.{Low}

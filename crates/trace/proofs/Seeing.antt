@@ -1,16 +1,8 @@
 -- What the code reads around a place of the trace. Assumes nothing.
 use Prim.Native.Nat.{ℕ, suc, ◌+◌, ◌-◌, ◌*◌, ◌≤◌, ◌<◌}
 use Rattle.std.specs.Prelude.{Option, None, Some}
-use mathlib.Core.Path.{◌≡◌, refl, sym, ap, ap₂, ◌∙◌, subst}
-use mathlib.Core.Logic.{◌≢◌}
-use mathlib.Core.Bool.{Bool, true, false, not, ◌&&◌, false≢true}
-use mathlib.Core.List.{List}
-use native.Mathlib.Numerals.{add-one}
-use native.Mathlib.Omega.{arith}
-use native.Mathlib.Nat.{mul-le-mul}
-use lib.ListN.{length, get_or}
-use lib.Dec.{T, eqb, ltb}
-use borrow.Author.Tests.{eq-eqb, eqb-true}
+use Rattle.std.proofs.Common.{◌≡◌, refl, sym, ap, ap₂, ◌∙◌, subst, ◌≢◌, Bool, true, false, not, ◌&&◌, List, add-one, arith, mul-le-mul, length, get_or, T, eqb, ltb, eq-eqb, eqb-true}
+use Rattle.std.proofs.lemmas.Bool.{false≢true}
 use Rattle.deck.specs.Sheet.{Sheet, read, area, free}
 use Rattle.deck.specs.Calls.{constraints_of}
 use Rattle.deck.specs.declared.Carrier.{Carrier}

@@ -1,15 +1,9 @@
 -- The path that is traced, place by place, and the words that are written. Assumes nothing.
 use Rattle.std.proofs.lemmas.Bool.{cases_lt}
 use Prim.Native.Nat.{ℕ, zero, suc, ◌+◌, ◌-◌, ◌≤◌, ◌<◌}
-use mathlib.Core.Path.{◌≡◌, refl, sym, ap, ◌∙◌, subst}
-use mathlib.Core.Logic.{⊎_elim}
-use mathlib.Core.List.{List, ◌∷◌}
-use native.Mathlib.Nat.{eq-or-lt_of_le}
-use native.Mathlib.Numerals.{add-one}
-use native.Mathlib.Omega.{arith}
-use lib.ListN.{length, get_or, drop, set, replicate, length-append, length-drop, length-set, length-replicate, get_or-replicate, get_or-append}
-use lib.Seq.{drop-drop, get_or-drop, get_or-append-add, get_or-set_same, get_or-set_other, ext_get_or}
-use lib.Dec.{T}
+use Rattle.std.proofs.Common.{◌≡◌, refl, sym, ap, ◌∙◌, subst, ⊎_elim, List, ◌∷◌, eq-or-lt_of_le, add-one, arith, length, get_or, drop, set, replicate, length-append, length-drop, length-set, drop-drop, get_or-drop, get_or-append-add, get_or-set_same, get_or-set_other, ext_get_or, T}
+use Rattle.std.proofs.lemmas.List.{length-replicate, get_or-replicate}
+use Rattle.std.proofs.Math.ListN.{get_or-append}
 use Rattle.deck.specs.Sheet.{Sheet, free, start_of, last_goal}
 use Rattle.deck.specs.Calls.{overwrite}
 use Rattle.deck.specs.declared.Carrier.{Carrier}

@@ -1,14 +1,7 @@
 -- The turns on the workspace come to the search's answer: at the start of each turn the state that is held leads to it. Assumes
 -- nothing.
 use Prim.Native.Nat.{ℕ, suc, ◌+◌, ◌-◌, ◌<◌, ◌≤◌}
-use mathlib.Core.Path.{◌≡◌, sym, ap, subst, ◌∙◌}
-use mathlib.Core.List.{List, [], ◌∷◌}
-use mathlib.Core.Bool.{Bool, true, false}
-use Rattle.std.proofs.Common.{Option, None, Some, ControlFlow, Continue, Break}
-use native.Mathlib.Numerals.{add-one}
-use native.Mathlib.Omega.{arith}
-use lib.ListN.{length}
-use lib.Dec.{leb}
+use Rattle.std.proofs.Common.{◌≡◌, sym, ap, subst, ◌∙◌, List, [], ◌∷◌, Bool, true, false, Option, None, Some, ControlFlow, Continue, Break, add-one, arith, length, leb}
 use Rattle.deck.specs.Sheet.{read, cause}
 use Rattle.deck.specs.Search.{Problem, Node, Selected, Answer, Turn, done, more, root_of, to_make, cheapest, extend, expand, turn_with, turn, onward, run, search_from, searched}
 use Rattle.deck.specs.Planner.{problem, plan_for}

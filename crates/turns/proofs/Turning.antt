@@ -1,12 +1,7 @@
 -- One turn on the workspace is the definition's turn: the node taken, its collision, the workspace once it is closed, and what each
 -- way out comes to. Assumes nothing.
 use Prim.Native.Nat.{ℕ, suc, ◌+◌, ◌*◌, ◌<◌, ◌≤◌}
-use mathlib.Core.Path.{◌≡◌, refl, sym, ap, subst, ◌∙◌}
-use mathlib.Core.List.{List, [], ◌++◌}
-use Rattle.std.proofs.Common.{Option, None, Some, ControlFlow, Break}
-use native.Mathlib.Omega.{arith}
-use native.Mathlib.Numerals.{add-one}
-use lib.ListN.{length, get_or, drop, length-set}
+use Rattle.std.proofs.Common.{◌≡◌, refl, sym, ap, subst, ◌∙◌, List, [], ◌++◌, Option, None, Some, ControlFlow, Break, arith, add-one, length, get_or, drop, length-set}
 use Rattle.deck.specs.Lists.{flat, pieces}
 use Rattle.deck.specs.Sheet.{Sheet, read, cause}
 use Rattle.deck.specs.Search.{State, Selected, done, no_plan, plan, rest_after, selected, cheapest, expand, turn_with, turn}

@@ -1,7 +1,6 @@
 -- `complete_root` meets its contract. The loop's invariant: of whatever root was begun, the first i paths are written;
 -- nodes made before are as they were. Assumes nothing.
-use mathlib.Core.Path.{◌≡◌}
-use native.Mathlib.Omega.{arith}
+use Rattle.std.proofs.Common.{◌≡◌, arith}
 use Rattle.expand.specs.Given.{sheet_of}
 use Rattle.nodes.proofs.Readers.{accepted_fits}
 use Rattle.expand.proofs.RootPaths.{room_keys, limit_low, same_then, root_held, root_held_same}

@@ -1,9 +1,7 @@
 -- `complete_root` meets its contract. The loop's invariant: of whatever root was begun, the first i paths are written;
 -- nodes made before are as they were. Assumes nothing.
-use mathlib.Core.Path.{◌≡◌}
-use mathlib.Core.List.{List}
+use Rattle.std.proofs.Common.{◌≡◌, List, length}
 use Prim.Native.Nat.{ℕ, ◌≤◌}
-use lib.ListN.{length}
 use Rattle.expand.specs.Given.{sheet_of}
 use Rattle.deck.specs.Search.{State}
 use Rattle.deck.specs.declared.Constraint.{Constraint}

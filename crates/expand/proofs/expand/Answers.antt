@@ -1,5 +1,5 @@
 -- `expand` meets its contract: the next root, the first child, the second child. Assumes nothing.
-use native.Mathlib.Omega.{arith}
+use Rattle.std.proofs.Common.{arith}
 use Rattle.expand.specs.Given.{sheet_of}
 use Rattle.expand.proofs.Expansion.{first_branch, second_branch, fewer_root, fewer_child, same_on, made_third}
 use Rattle.expand.proofs.expand.Goals as goal

@@ -1,6 +1,5 @@
 -- `make_child` meets its contract: no path, no node left, or the child by its least path. Assumes nothing.
-use native.Mathlib.Omega.{arith}
-use lib.Seq.{length-take-le}
+use Rattle.std.proofs.Common.{arith, length-take-le}
 use Rattle.sheet.proofs.Accepted.{width_range, limit_range}
 use Rattle.expand.proofs.ChildPath.{records_room, carrier_few, child_small, no_path_lem, a_path, path_same, not_made, none_left, finish_small, new_child, made_same, child_made}
 use Rattle.expand.proofs.make_child.Goals as goal

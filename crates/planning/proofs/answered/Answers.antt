@@ -1,6 +1,5 @@
 -- `answered` meets its contract, by the end of the search. Assumes nothing.
-use Rattle.std.proofs.Common.{subst, ap, ◌∙◌, ◌+◌, ◌*◌, ◌≤◌, arith, length}
-use native.Mathlib.Numerals.{add-one}
+use Rattle.std.proofs.Common.{subst, ap, ◌∙◌, ◌+◌, ◌*◌, ◌≤◌, arith, length, add-one}
 use Rattle.expand.specs.Given.{sheet_of}
 use Rattle.sheet.proofs.Accepted.{width_range, count_range, horizon_range}
 use Rattle.records.specs.Record.{tasks_in, bytes}

@@ -1,5 +1,5 @@
 -- `bounds_of` meets its contract: the bounds of the first j tasks are filled in. Assumes nothing.
-use native.Mathlib.Omega.{arith}
+use Rattle.std.proofs.Common.{arith}
 use Prim.Native.Nat.{◌<◌}
 use Rattle.deck.specs.Sheet.{read}
 use Rattle.sheet.proofs.Accepted.{count_range}

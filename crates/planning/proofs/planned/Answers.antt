@@ -1,7 +1,5 @@
 -- `planned` meets its contract: the first root is begun and completed, the turns come to the answer. Assumes nothing.
-use mathlib.Core.Path.{◌≡◌, ◌∙◌}
-use native.Mathlib.Omega.{arith}
-use lib.ListN.{length}
+use Rattle.std.proofs.Common.{◌≡◌, ◌∙◌, arith, length}
 use Rattle.sheet.proofs.Accepted.{count_range, limit_range}
 use Rattle.turns.proofs.Turning.{room_of}
 use Rattle.planning.proofs.Answering.{FirstBegun, first_begun}

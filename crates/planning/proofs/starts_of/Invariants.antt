@@ -1,7 +1,6 @@
 -- `starts_of` meets its contract: the first i starts are written. Assumes nothing.
-use mathlib.Core.Path.{◌≡◌}
+use Rattle.std.proofs.Common.{◌≡◌, length, get_or}
 use Prim.Native.Nat.{ℕ, ◌<◌, ◌≤◌}
-use lib.ListN.{length, get_or}
 use Rattle.deck.specs.Sheet.{read}
 use Rattle.planning.proofs.starts_of.Given as goal
 

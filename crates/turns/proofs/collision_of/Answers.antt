@@ -1,8 +1,6 @@
 -- `turns::collision_of` meets its contract: the paths that are written are the node's. Assumes nothing.
 use Prim.Native.Nat.{ℕ, ◌+◌, ◌*◌, ◌≤◌}
-use native.Mathlib.Nat.{mul-le-mul}
-use native.Mathlib.Numerals.{add-one}
-use native.Mathlib.Omega.{arith}
+use Rattle.std.proofs.Common.{mul-le-mul, add-one, arith}
 use Rattle.expand.specs.Given.{sheet_of}
 use Rattle.sheet.proofs.Accepted.{width_range, count_range, horizon_range}
 use Rattle.turns.proofs.Turning.{node_collision}

@@ -1,7 +1,6 @@
 -- `Chains::is_free_at` meets its contract: a chain without a record bars nothing. Assumes nothing.
-use Rattle.std.proofs.Common.{sym, ap, ◌∙◌, not, get_or}
+use Rattle.std.proofs.Common.{sym, ap, ◌∙◌, not, get_or, eqb→eq}
 use Rattle.std.specs.List.{list_all}
-use lib.Dec.{eqb→eq}
 use Rattle.bars.specs.Bars.{count_in, moves, ours}
 use Rattle.bars.proofs.Walks.{ours_chain}
 use Rattle.bars.proofs.Records.{move_ours}

@@ -1,6 +1,5 @@
 -- `Kept::trace` meets its contract: the places up to t are written, and the rest of the path follows. Assumes nothing.
-use Rattle.std.proofs.Common.{◌+◌, refl, arith}
-use lib.ListN.{length-set}
+use Rattle.std.proofs.Common.{◌+◌, refl, arith, length-set}
 use Rattle.passes.specs.Courses.{sheet_of, carrier_of, bars_of}
 use Rattle.passes.proofs.Given.{begins_free}
 use Rattle.trace.proofs.Seeing.{on_layer}
