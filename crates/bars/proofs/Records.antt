@@ -3,7 +3,7 @@ use Rattle.std.proofs.Common.{ℕ, zero, suc, ◌/◌, ◌<◌, ◌≡◌, refl,
 use Rattle.std.specs.List.{list_all, range_with_len}
 use Rattle.std.proofs.lemmas.List.{length-map, get_or-map}
 use Rattle.std.proofs.lemmas.List.FromFn.{fill_by_all}
-use Rattle.deck.proofs.Members.{Mem, here, there}
+use Rattle.deck.proofs.Members.{Mem, here, there, map_mem}
 use Rattle.std.proofs.lemmas.Bool.{false≢true}
 use Rattle.deck.specs.Lists.{below, all}
 use Rattle.deck.specs.Sheet.{carrier}
@@ -11,7 +11,7 @@ use Rattle.deck.specs.Calls.{record_word, constraint_of, constraint_at, constrai
 use Rattle.deck.specs.declared.Carrier.{Carrier}
 use Rattle.deck.specs.declared.Constraint.{Constraint}
 use Rattle.meaning.proofs.Tests.{same_test}
-use Rattle.meaning.proofs.Lists.{mem_map, map_mem, mem_below, length_below, get_or_below}
+use Rattle.meaning.proofs.Lists.{mem_map, mem_below, length_below, get_or_below}
 use Rattle.kernel.specs.Parts.{bars_move, bars_place, free_move, free_place, stay_after}
 use Rattle.kernel.proofs.Both.{and_left, and_right}
 use Rattle.bars.specs.Padded.{pad_of}

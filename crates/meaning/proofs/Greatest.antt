@@ -4,7 +4,7 @@ use Rattle.std.specs.List.{fold, reduce}
 use Rattle.std.specs.Option.{unwrap_or, option_map}
 use Rattle.deck.specs.Lists.{greatest}
 
-greatest_max : (x : ℕ) (l : List ℕ) → greatest (x ∷ l) ≡ max x (greatest l)
+pub greatest_max : (x : ℕ) (l : List ℕ) → greatest (x ∷ l) ≡ max x (greatest l)
 greatest_max x l = go (leb (greatest l) x) refl
   where
     go : (b : Bool) → leb (greatest l) x ≡ b → cond b x (greatest l) ≡ max x (greatest l)

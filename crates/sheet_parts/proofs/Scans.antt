@@ -5,6 +5,7 @@ use Rattle.std.specs.List.{list_any, list_all, range_with_len, fold, reduce}
 use Rattle.std.specs.Option.{unwrap_or, option_map}
 use Rattle.deck.specs.Lists.{below, has, distinct, greatest}
 use Rattle.meaning.proofs.Lists.{get_or_count_from, length_count_from}
+use Rattle.meaning.proofs.Greatest.{greatest_max}
 
 -- the element k and those after it
 split_at : (l : List ℕ) (k : ℕ) → k < length l → drop k l ≡ get_or l k 0 ∷ drop (k + 1) l

@@ -22,7 +22,7 @@ pub mask_row-requires : goal.mask_row-requires
 mask_row-requires c =
     let s = c.args.sheet.now in
     let q = code_asks s.bytes.now s.accepted c.width-w.ensures.value c.grid_of-grid.ensures c.loop-y.y (omega (arith, c.height-y-end.ensures.value)) in
-    (q.0, c.loop-y.invariant.1.size, rw c.greatest-plain.ensures q.1)
+    (q.0, rw c.greatest-plain.ensures q.1)
 
 pub loop-y-preserved : goal.loop-y-preserved
 loop-y-preserved c =
