@@ -1,5 +1,6 @@
 -- A look around a place finds the next place of the trace. Assumes nothing.
 use Prim.Native.Nat.{ℕ, zero, suc, ◌+◌, ◌-◌, ◌≤◌, ◌<◌}
+use Rattle.std.proofs.Math.Bool.{and_comm}
 use Rattle.std.specs.Prelude.{Option, None, Some}
 use Rattle.std.specs.List.{find, HoldsAt, AllWithin}
 use Rattle.std.proofs.Common.{◌≡◌, refl, sym, ap, ◌∙◌, subst, ⊎_elim, ◌≢◌, eq-or-lt_of_le, Bool, true, false, cond, ◌&&◌, List, [], ◌∷◌, arith, length, get_or, take, drop, length-drop, get_or-drop, take_all, T, ltb, eq-eqb, ne_eqb}
@@ -13,7 +14,7 @@ use Rattle.kernel.specs.Goals.{up}
 use Rattle.kernel.specs.Labels.{all_goals, first_label, raised}
 use Rattle.kernel.specs.Parts.{free_move, step_free}
 use Rattle.kernel.specs.Kernel.{hind, onward}
-use Rattle.kernel.proofs.Both.{and_left, and_turned}
+use Rattle.kernel.proofs.Both.{and_left}
 use Rattle.kernel.proofs.OfTask.{first_label_is, raised_is}
 use Rattle.kernel.proofs.OfSheet.{step_free_meant}
 use Rattle.bars.specs.Padded.{pad_of}
@@ -53,7 +54,7 @@ module _ (d : Sheet) (j : Task) (w : ℕ) (z : 0 < w) (goals : List ℕ) (n : �
 pub way_onward : (d : Sheet) (i : Carrier) (j : Task) (cs : List Constraint) (n t u k q m : ℕ) → T (step_free d u q) → m ≡ hind d i j cs n (suc t) q
     → (ltb (all_goals d j) (k + m) && free_move i cs t u q) ≡ onward d i j cs n t u k q
 unfolding onward
-way_onward d i j cs n t u k q m h e = rw (e, is_true (step_free d u q) h) (and_turned (ltb (all_goals d j) (k + hind d i j cs n (suc t) q)) (free_move i cs t u q))
+way_onward d i j cs n t u k q m h e = rw (e, is_true (step_free d u q) h) (and_comm (ltb (all_goals d j) (k + hind d i j cs n (suc t) q)) (free_move i cs t u q))
 
 -- the trace goes by allowed steps, and to free places
 pub onward_step : (d : Sheet) (i : Carrier) (j : Task) (cs : List Constraint) (n t u k q : ℕ) → T (onward d i j cs n t u k q) → T (step_free d u q)
