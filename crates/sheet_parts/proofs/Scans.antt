@@ -1,5 +1,5 @@
--- Laws of the tests on lists, an element at a time: of what is left from the index k on, where k is an element's index, and
--- where it is past the last. Assumes nothing.
+-- Laws of the tests on lists: what a test over the indexes from k on comes to, the greatest number as a maximum, and the numbers below
+-- n by their index. Assumes nothing.
 use Rattle.std.proofs.Common.{ℕ, zero, suc, ◌+◌, ◌-◌, ap, ◌&&◌, ◌||◌, ◌≤◌, ◌<◌, max, ◌≡◌, refl, sym, ◌∙◌, Bool, true, false, cond, not, Option, None, Some, List, [], ◌∷◌, zero-add, add-one, arith, eqb, leb, length, get_or, drop, drop_of_length-le, drop-cons, leb-true, leb-false}
 use Rattle.std.specs.List.{list_any, list_all, range_with_len, fold, reduce}
 use Rattle.std.specs.Option.{unwrap_or, option_map}
