@@ -23,6 +23,7 @@ fn main(rt: HostRuntime) -> io::Result<()> {
     let mut input = Stored {
         rest: input::read(&rt, &mut buffer)?,
     };
+    // Kept: the cases up to the end of the input, which counts no index; a loop over `from_fn` would have to be proved to end.
     while let Some(case) = next_case(&mut input) {
         if let Some(words) = testing::read_words(case.words, &mut space) {
             report(

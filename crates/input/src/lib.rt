@@ -12,6 +12,7 @@ pub fn read<'a>(rt: &impl Input, buffer: &'a mut [u8]) -> io::Result<&'a [u8]>
 {
     let mut reader = rt.reader();
     let mut done = 0;
+    // Kept: a count, since `read_to_end` needs a heap, and `read_exact` fails where the input is shorter.
     while done < buffer.len() {
         match reader.read(&mut buffer[done..])? {
             0 => break,

@@ -1,12 +1,12 @@
 -- From what the calls ensure of their answers to what the exported calls leave in the words lent. Assumes nothing.
-use Rattle.std.proofs.Common.{ℕ, zero, suc, ◌≤◌, ◌<◌, ◌≡◌, refl, sym, ap, subst, ◌∙◌, ◌≢◌, List, [], ◌∷◌, length, ℤ, lt-ltb, le-ltb, Option, None, Some, Result, Ok, Err}
+use Rattle.std.proofs.Common.{ℕ, ◌≤◌, ◌<◌, ◌≡◌, refl, sym, ap, subst, ◌∙◌, List, [], ◌∷◌, length, ℤ, lt-ltb, le-ltb, Option, None, Some, Result, Ok, Err}
 use Rattle.std.specs.Prelude.{⊤}
 use Rattle.deck.specs.declared.Stretch.{Stretch}
 use Rattle.std.proofs.lemmas.Result.{MatchResult-at_ok}
 use Rattle.meaning.proofs.Accepted.{cause_of_err}
 use Rattle.deck.specs.Sheet.{read, sheet_cause, task, count_of, pair_at, task_pair}
 use Rattle.deck.specs.Causes.{number, answer_unless}
-use Rattle.deck.specs.Calls.{workspace_of, goals_cause, goals_call, PathCall, assignment_cause, assignment_answer_for, AssignmentCall, search_answer, SearchCall}
+use Rattle.deck.specs.Calls.{workspace_of, goals_cause, goals_call, PathCall, assignment_cause, AssignmentCall, search_answer, SearchCall}
 use Rattle.deck.specs.Numbers.{cause_number, found_numbers, path_numbers, assignment_numbers, sum_told, search_numbers}
 use Rattle.deck.proofs.Told.{path_answered, assignment_answered, search_answered}
 use Rattle.deck.specs.declared.Carrier.{Carrier}

@@ -1,10 +1,10 @@
 -- The values of every answer fit words of 32 bits. Assumes nothing.
-use Rattle.std.proofs.Common.{ℕ, zero, suc, ◌+◌, ◌*◌, ◌≤◌, ◌<◌, ◌≡◌, refl, sym, ◌≢◌, ⊎_elim, Bool, true, false, List, [], ◌∷◌, map, Option, None, Some, Result, Ok, Err, mul-le-mul_right, suc-mul, arith, length, get_or, leb, ◌∙◌}
+use Rattle.std.proofs.Common.{ℕ, zero, suc, ◌+◌, ◌*◌, ◌≤◌, ◌<◌, ◌≡◌, refl, sym, ⊎_elim, Bool, true, false, List, [], ◌∷◌, map, Option, None, Some, Result, Ok, Err, mul-le-mul_right, suc-mul, arith, length, get_or, leb, ◌∙◌}
 use native.Mathlib.Decide.{dec_le}
 use Rattle.std.proofs.lemmas.Bool.{cases_lt}
 use Rattle.std.proofs.lemmas.Option.{none-some}
 use Rattle.deck.specs.Lists.{below, sum, pieces}
-use Rattle.deck.specs.Sheet.{Sheet, read, cause, sheet_cause, area, task, count_of, horizon_of, start_of}
+use Rattle.deck.specs.Sheet.{Sheet, read, cause, sheet_cause, area, task, count_of, start_of}
 use Rattle.deck.specs.Paths.{least_path, finish_of}
 use Rattle.deck.specs.Assignments.{least_assignment, sum_of, entries, barred}
 use Rattle.deck.specs.Search.{Node, State, Selected, Turn, done, more, Answer, plan, no_plan, spent, cheapest, to_make, extend, expand, turn_with, turn, onward, run, search_from, searched}

@@ -13,8 +13,13 @@ ghost use Rattle.std.specs.Prelude.{◌<◌, OnSome, length};
 
 use deck::SearchAnswer;
 use std::io;
-use testing::Stored;
+use testing::{Output, Spaced, Stored};
 
+// What stands in a line without a plan.
+// Kept: 255 is document 01's number of an entry that has no task.
+const NO_TASKS: [u8; 12] = [255; 12];
+
+// Kept: `keeps_workspace` is beside values that count whether it is true or not, and says of none that it is there.
 #[derive(Drop)]
 struct Case<'a> {
     room: usize,
@@ -75,18 +80,22 @@ fn call(rt: &impl Print, case: &Case, work: &mut [u32], out: &mut [u16]) -> io::
     if !case.keeps_workspace {
         work.fill(case.work_filler);
     }
-    match search::search(case.sheet, work, out) {
-        Ok(answer) => found(rt, answer)?,
+    let answer = search::search(case.sheet, work, out);
+    let written = Output(testing::changed(out, case.out_filler));
+    match answer {
+        Ok(answer) => found(rt, answer, written),
         Err(cause) => {
-            print!(rt; "refused {}", u8::from(cause))?;
-            testing::print_workspace_change(rt, work, case.work_filler)?;
-            numbers(rt, 0, 0, 0, &[255; 12])?;
+            let change = testing::workspace_change(work, case.work_filler);
+            println!(rt;
+                "refused {}{change} flowtime 0 nodes 0 bound 0 tasks{}{written}",
+                u8::from(cause),
+                Spaced(&NO_TASKS)
+            )
         }
     }
-    testing::print_output(rt, out, case.out_filler)
 }
 
-fn found(rt: &impl Print, answer: SearchAnswer) -> io::Result<()> {
+fn found(rt: &impl Print, answer: SearchAnswer, written: Output) -> io::Result<()> {
     match answer {
         SearchAnswer::Plan {
             tasks,
@@ -94,30 +103,18 @@ fn found(rt: &impl Print, answer: SearchAnswer) -> io::Result<()> {
             nodes,
             bound,
         } => {
-            print!(rt; "plan")?;
-            numbers(rt, flowtime, nodes, bound, &tasks)
+            let tasks = Spaced(&tasks);
+            println!(rt;
+                "plan flowtime {flowtime} nodes {nodes} bound {bound} tasks{tasks}{written}"
+            )
         }
         SearchAnswer::NoPlan { nodes } => {
-            print!(rt; "none")?;
-            numbers(rt, 0, nodes, 0, &[255; 12])
+            let tasks = Spaced(&NO_TASKS);
+            println!(rt; "none flowtime 0 nodes {nodes} bound 0 tasks{tasks}{written}")
         }
         SearchAnswer::Spent { nodes, bound } => {
-            print!(rt; "spent")?;
-            numbers(rt, 0, nodes, bound, &[255; 12])
+            let tasks = Spaced(&NO_TASKS);
+            println!(rt; "spent flowtime 0 nodes {nodes} bound {bound} tasks{tasks}{written}")
         }
     }
-}
-
-fn numbers(
-    rt: &impl Print,
-    flowtime: usize,
-    nodes: usize,
-    bound: usize,
-    tasks: &[u8; 12],
-) -> io::Result<()> {
-    print!(rt; " flowtime {flowtime} nodes {nodes} bound {bound} tasks")?;
-    for task in tasks {
-        print!(rt; " {task}")?;
-    }
-    Ok(())
 }

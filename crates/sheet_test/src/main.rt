@@ -35,6 +35,7 @@ fn pairs(rt: &impl Print, r: &Reading) -> io::Result<()> {
     Ok(())
 }
 
+// Kept: the form of `tasks`, since each asks an accessor of the sheet for one number after the other.
 fn starts(rt: &impl Print, s: &[u8], m: usize) -> io::Result<()> {
     print!(rt; " /")?;
     for i in (0..m).map(Carrier) {
@@ -47,6 +48,7 @@ fn starts(rt: &impl Print, s: &[u8], m: usize) -> io::Result<()> {
 fn goals(rt: &impl Print, s: &[u8], j: Task) -> io::Result<()> {
     let bytes = Spaced(sheet::task_goals(s, j));
     print!(rt; " /{bytes} /")?;
+    // Kept: the goals by their numbers, as the accessor that is tried here takes them.
     for goal in (0..sheet::goal_count(s, j)).map(|k| sheet::goal(s, j, k)) {
         print!(rt; " {goal}")?;
     }
