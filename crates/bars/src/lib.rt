@@ -21,7 +21,7 @@ pub type Layer = [u8; 1156];
 // Such a layer for each of the five ways, one after the other.
 pub type Ways = [u8; 5780];
 
-// The size of a grid: that of an accepted sheet.
+// The size of a grid: that of an accepted sheet. Kept: two numbers like those of nodes made, of which nothing else is the same.
 #[derive(Clone, Copy, Debug, PartialEq, Eq)]
 pub struct Size {
     pub width: usize,
@@ -109,8 +109,8 @@ impl Way {
         }
     }
 
-    // The way by which a step from the padded place a comes to b, in padded rows of this length. Kept: five tests, since what is compared
-    // are two places, of which no number, row length aside, names the way.
+    // The way by which a step from the padded place a comes to b, in padded rows of this length. Kept: five tests of two places; there is no
+    // number of the way that could be matched on.
     fn between(row: usize, a: usize, b: usize) -> Option<Way>
         requires { (row ≤ 34) × (a < 1156) × (b < 1156) }
         ensures { number_if result ≡ way_of row a b }
@@ -236,7 +236,9 @@ fn stay_after(bar: Constraint, carrier: Carrier, g: usize) -> usize
     }
 }
 
-// The constraints of one carrier on a grid of this size.
+// The constraints of one carrier on a grid of this size. Kept: chains of numbers in words that the caller lends: no heap, and up to 4096
+// records of five words each. Kept: t < 256 of each function: the passes count a time up and down, and a type would be left and made anew
+// at each step.
 #[derive(Drop)]
 pub struct Chains<'a> {
     pub size: Size,
@@ -252,7 +254,7 @@ pub struct Chains<'a> {
 impl<'a> Chains<'a> {
     ghost use Rattle.bars.specs.Rest.{rest_of};
 
-    // The chains of the carrier's constraints: the links stand in the lent words.
+    // The chains of the carrier's constraints: the links stand in the lent words. Kept: an index, which is the record's number and its link.
     pub fn new(size: Size, records: &'a [u16], carrier: Carrier, links: &'a mut [u32]) -> Chains<'a>
         requires timely { Timely records.now }
         requires on_grid { OnLayer size.width records.now }
@@ -321,7 +323,7 @@ impl<'a> Chains<'a> {
         self.at(t).all(|bar| !bars_place(bar, v))
     }
 
-    // Shuts the ways that the carrier's move constraints bar at t.
+    // Shuts the ways that the carrier's move constraints bar at t. Kept: the direction, as in `move_slot`.
     pub fn shut(&self, t: usize, direction: Direction, ways: &mut Ways)
         requires { t < 256 }
         ensures { Cleared (move_slot self.now.size.width (is_back direction)) (ours_at self.now.records.now self.now.carrier.0 t) ways.old ways.new }

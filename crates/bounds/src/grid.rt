@@ -15,6 +15,7 @@ pub struct Grid<'a> {
 }
 
 impl Grid<'_> {
+    // Kept: the way is what is asked about, and the mask's byte stands at the place's own index.
     // Gives the padded place p the distance d, where it has a greater one and may be left by the way, and puts it into the queue. A
     // blocked place has 0.
     fn mark(&self, dist: &mut Layer, queue: &mut Queue, p: usize, way: Way, d: u8)
@@ -66,7 +67,8 @@ impl Grid<'_> {
     }
 
     // No number around a free place is above one more than its own, where `counts` says what counts of a number, with the mask's byte
-    // of its place and the way that leads from it: one loop without branches, which the compiler turns into vector code.
+    // of its place and the way that leads from it: one loop without branches, which the compiler turns into vector code. Kept: an index, since
+    // the five stretches of both lists lie at offsets of their own.
     fn even_by<F: Fn(u8, u8, Way) -> u8>(&self, dist: &Layer, counts: F) -> bool
         requires { F.IsAlwaysCallable counts }
         ensures { result ≡ true → EvenBy (F.post counts) dist.now self.now.mask.now (row_of self.now.size.width) (end_of self.now.size.width self.now.size.height) }
@@ -93,7 +95,7 @@ impl Grid<'_> {
             || self.even_by(dist, |d, m, way| if way.opens(m) { d } else { 0 })
     }
 
-    // Copies a layer to the table from the index `at` on, by place.
+    // Copies a layer to the table from the index `at` on, by place. Kept: rows at a product: the table is lent, in fixed memory.
     pub fn store(&self, layer: &Layer, at: usize, table: &mut [u8])
         requires { at + self.now.size.width * self.now.size.height ≤ length table.old }
         ensures { Filled at (at + self.now.size.width * self.now.size.height) (λ p. get_or layer.now (pad_of self.now.size.width (p - at)) 0) table.old table.new }

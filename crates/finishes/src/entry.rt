@@ -37,7 +37,7 @@ impl Entry {
         self.steps.is_some()
     }
 
-    // The entry of the table.
+    // The entry of the table. Kept: 65535 where no number is known, which is document 01's barred entry.
     pub fn number(&self) -> u16
         ensures { result ≡ number_of self.now.steps }
     {

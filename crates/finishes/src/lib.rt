@@ -25,7 +25,7 @@ mod sweep;
 use entry::Entry;
 use sweep::Sweep;
 
-// The starts of the sheet's carriers, with no number of steps known.
+// The starts of the sheet's carriers, with no number of steps known. Kept: an index, which names the carrier in the sheet and in the list.
 fn entries_of(sheet: &AcceptedSheet, size: Size) -> [Entry; 12]
     requires { Sized sheet.now.bytes.now size.width size.height }
     ensures starts { Starts sheet.now.bytes.now (starts_in result) }
@@ -50,7 +50,7 @@ fn put_column(table: &mut [u16; 144], task: Task, entries: &[Entry])
     }
 }
 
-// The table over the ways with these doors.
+// The table over the ways with these doors. Kept: barred entries at first, which are document 01's 65535.
 fn table_by<'a>(
     sheet: &'a AcceptedSheet<'a>,
     mask: &'a Layer,

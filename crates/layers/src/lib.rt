@@ -15,6 +15,7 @@ ghost use Rattle.layers.specs.Packed.{FourAt, Kept, byte_in, kept_at, words_for}
 
 use bars::{CELLS, Chains, Direction, Layer, Size, Way, Ways};
 
+// Kept, here and in the loops that follow: the row and the end as numbers with their bounds: a size would be taken apart before the loop.
 // One step without constraints: one loop without branches, which the compiler turns into vector code. Kept: an index, here and in the
 // two loops that follow it: five stretches of the layers, each at an offset of its own, would be five slices zipped by fours.
 fn spread(src: &Layer, mask: &Layer, row: usize, end: usize, dst: &mut Layer)
@@ -115,7 +116,8 @@ pub fn is_plain(mask: &Layer, size: Size) -> bool
     worst == 0
 }
 
-// The byte of a place where the byte m has the bit of the way, and else 0.
+// The byte of a place where the byte m has the bit of the way, and else 0. Kept: the way, here and in the functions that follow, is what is
+// asked about.
 fn through(byte: u8, m: u8, way: Way) -> u8
     ensures { result ≡ cond (opens_by m (number_of way)) byte 0 }
 {
@@ -141,7 +143,7 @@ fn fill_way(
     }
 }
 
-// The bytes of the way.
+// The bytes of the way. Kept: the direction, which is data of a pass and chosen at run time.
 fn way_doors(mask: &Layer, size: Size, direction: Direction, way: Way, doors: &mut Ways)
     ensures { Filled (1156 * number_of way + row_of size.width) (1156 * number_of way + end_of size.width size.height) (λ q. door_at mask.now (row_of size.width) (is_back direction) (number_of way) (q - 1156 * number_of way)) doors.old doors.new }
 {
@@ -163,7 +165,8 @@ pub fn fill_doors(mask: &Layer, size: Size, direction: Direction, doors: &mut Wa
     }
 }
 
-// The bytes of the five ways where there are no doors: from above, left, the place itself, right, below.
+// The bytes of the five ways where there are no doors: from above, left, the place itself, right, below. Kept: five stretches of one array,
+// as the loop of a step reads them.
 fn copies_of(mask: &Layer) -> Ways
     ensures { (length result ≡ 5780) × Copies mask.now [] result }
 {

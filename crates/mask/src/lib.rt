@@ -19,7 +19,7 @@ fn either(b: u8, k: u8, x: u8, y: u8) -> u8
 }
 
 // What the mask says of a grid byte: 0 blocked, 255 free, else the bits of the ways by which a lane may be left. Written without
-// branches on the byte, so that the compiler turns a row into vector code; without lanes one test is enough.
+// branches on the byte, so that the compiler turns a row into vector code; without lanes one test is enough. Kept: the flag, as in `mask_row`.
 fn shade(b: u8, plain: bool) -> u8
     requires { plain ≡ true → b ≤ 1 }
     ensures { result ≡ shade_of b }
@@ -34,7 +34,8 @@ fn shade(b: u8, plain: bool) -> u8
     either(b, 1, 0, north)
 }
 
-// One row of the mask, of these grid bytes, at the padded place `at`.
+// One row of the mask, of these grid bytes, at the padded place `at`. Kept: the place beside the bytes, and an index: the clause says what
+// stands in the whole mask. Kept: a flag, found once for the grid and tested in no round of the loop.
 fn mask_row(row: &[u8], at: usize, plain: bool, mask: &mut Layer)
     requires { (at + length row.now ≤ 1156) × (plain ≡ true → Plain row.now) }
     ensures { Filled at (at + length row.now) (λ p. shade_of (get_or row.now (p - at) 0)) mask.old mask.new }
@@ -60,7 +61,8 @@ fn grid_of<'a>(sheet: &AcceptedSheet<'a>) -> &'a [u8]
 }
 
 // Makes zeros the mask of an accepted sheet: on the padded grid, 0 off the grid. In place, since a copy would cost a short path a
-// measurable part of its time.
+// measurable part of its time. Kept: rows at a product, here of the lent sheet; and `MaskOf`, here and where others ask for it, since the
+// mask is an array that is filled in place.
 pub fn fill(sheet: &AcceptedSheet, mask: &mut Layer)
     requires { mask.old ≡ replicate 1156 0 }
     ensures { MaskOf (read sheet.now.bytes.now) mask.new }

@@ -132,7 +132,7 @@ impl<'a> Course<'a> {
         self.forward_by(Some(&doors), from)
     }
 
-    // The backward pass over the ways with these doors.
+    // The backward pass over the ways with these doors. Kept: true or false beside the words, which are written either way.
     fn backward_by(&self, doors: Option<&Ways>, end: usize, words: &mut [u32]) -> bool
         requires in_time { end ≤ (sheet_of self.now).horizon }
         requires room { Roomy self.now words.old }
@@ -165,7 +165,7 @@ impl<'a> Course<'a> {
     }
 
     // The backward pass from `end`: the layers of all times up to it are kept, and the answer is whether the task can be finished
-    // then.
+    // then. Kept: true or false, as in `backward_by`.
     pub fn backward(&self, end: usize, words: &mut [u32]) -> bool
         requires in_time { end ≤ (sheet_of self.now).horizon }
         requires room { Roomy self.now words.old }

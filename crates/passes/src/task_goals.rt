@@ -6,7 +6,7 @@ use bars::Size;
 use deck::Task;
 use sheet::AcceptedSheet;
 
-// At most eight padded places.
+// At most eight padded places. Kept: an array with a count: no heap, and a task has one to eight goals.
 #[derive(Clone, Copy, Debug, PartialEq, Eq)]
 pub struct Goals {
     places: [usize; 8],
@@ -17,7 +17,7 @@ pub struct Goals {
 impl Goals {
     ghost use Rattle.passes.specs.Listed.{listed};
 
-    // The goals of the task, in their order.
+    // The goals of the task, in their order. Kept: an index, which names the goal in the sheet and in the places.
     pub fn of(sheet: &AcceptedSheet, size: Size, task: Task) -> Goals
         requires { Sized sheet.now.bytes.now size.width size.height }
         ensures { GoalsOf sheet.now.bytes.now task (listed result) }

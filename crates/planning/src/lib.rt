@@ -23,7 +23,7 @@ use turns::End;
 // How many bytes the lower bounds of a task have.
 const BOUNDS: usize = 9216;
 
-// The starts of the carriers.
+// The starts of the carriers. Kept: an index, which names the carrier in the sheet and in the list.
 fn starts_of(sheet: &AcceptedSheet) -> [u16; 12]
     ensures { StartsOf (read sheet.now.bytes.now) result }
 {
@@ -34,7 +34,7 @@ fn starts_of(sheet: &AcceptedSheet) -> [u16; 12]
     starts
 }
 
-// The lower bounds of all tasks.
+// The lower bounds of all tasks. Kept: each task's bytes at a product: one table in fixed memory, which the search lends whole.
 fn bounds_of(sheet: &AcceptedSheet, mask: &Layer, table: &mut [u8])
     requires { MaskOf (read sheet.now.bytes.now) mask.now × (length table.old ≡ 110592) }
     ensures { Bounded (read sheet.now.bytes.now) table.new }

@@ -24,7 +24,7 @@ const BOUNDS: usize = 9216;
 const FEW: usize = 4096;
 
 // By the two passes. They work in the words past the nodes, or, where a small sheet leaves too few of them for the links of all
-// records, in the spare words.
+// records, in the spare words. Kept: the words past the nodes, found by the node limit: C lends one list of words for all.
 fn by_passes(
     errand: &Errand,
     bound: usize,
@@ -49,7 +49,7 @@ fn by_passes(
 }
 
 // By the walk: at the first time at which the path may finish, and at the next ones. A child's path mostly finishes when its
-// parent's does, or soon after.
+// parent's does, or soon after. Kept: each task's bytes at a product, as `bounds` are lent, in fixed memory.
 fn by_walk(
     errand: &Errand,
     bound: usize,

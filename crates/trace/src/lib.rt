@@ -18,7 +18,8 @@ mod kept_layers;
 
 pub use kept_layers::Kept;
 
-// As many goals as are visited once the carrier is on the padded place p, with k of them visited before.
+// As many goals as are visited once the carrier is on the padded place p, with k of them visited before. Kept: k beside the goals, since
+// both it and the answer count from the first goal.
 pub fn visit(goals: &[usize], k: usize, p: usize) -> usize
     requires { k ≤ length goals.now }
     ensures { Visited goals.now (length goals.now) p k result }
@@ -29,7 +30,7 @@ pub fn visit(goals: &[usize], k: usize, p: usize) -> usize
     }
 }
 
-// The places from `from` to `to` - 1 are g.
+// The places from `from` to `to` - 1 are g. Kept: the whole list with two places, since the clause says what stands in all of it.
 pub fn stay(out: &mut [u16], from: usize, to: usize, g: u16)
     requires { (from ≤ to) × (to ≤ length out.old) }
     ensures { Filled from to (λ _. g) out.old out.new }
@@ -50,7 +51,8 @@ struct Look<'a> {
 }
 
 impl<'a> Look<'a> {
-    // A step by the way leads to a free place, keeps the time and is not barred.
+    // A step by the way leads to a free place, keeps the time and is not barred. Kept: the way, here and in the functions that follow, is what
+    // is asked about; it chooses no other step.
     fn way_on(&self, way: Way) -> bool
         ensures { result ≡ way_on (view self.now.kept.now self.now.t self.now.u self.now.p self.now.at self.now.k) (number_of way) }
     {

@@ -20,7 +20,7 @@ use nodes::Open;
 use std::ops::ControlFlow;
 
 // How the search ends: a node is the plan; no node is open; or a node was to be made and none was left, where no plan costs less than
-// the bound. Beside a plan or none, how many nodes are made.
+// the bound. Beside a plan or none, how many nodes are made. Kept: three ends, each with its own numbers: no Option or Result has three.
 #[derive(Clone, Copy, Debug, PartialEq, Eq)]
 pub enum End {
     Plan { node: Open, made: usize },
