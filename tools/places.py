@@ -5,7 +5,7 @@ usage, at the top of the repository:
     python3 tools/places.py           a line for each point and pattern: how many places
     python3 tools/places.py N         every place of point N: crate/file:line  text
     python3 tools/places.py table     crate by point, in Markdown
-    python3 tools/places.py kept      the places of point 8 that a line `-- Kept: ..` explains: at the head of their file, or right above them
+    python3 tools/places.py kept      for each point how many places there are and how many a comment `Kept: ..` explains, then those that none does
 
 A pattern whose name begins with ~ is listed and counted apart: a person has to say which of its places are places of the point.
 """
@@ -629,19 +629,54 @@ def point_8(code):
             yield Place("~ lemmas with the name of one of the library", l.path, l.line, l.name)
 
 
-def comment_block(lines, line):
-    """The lines of comment right above a line, and at the line itself."""
+# REASONS
+
+
+def comment_block(lines, line, mark):
+    """The lines of comment right above a line, attributes left out, and the line itself."""
     k = line - 1
-    while k > 0 and lines[k - 1].strip().startswith("--"):
+    while k > 0 and lines[k - 1].strip().startswith((mark, "#[")):
         k -= 1
     return lines[k:line]
+
+
+def says_kept(lines, mark):
+    return any(re.search(re.escape(mark) + r" (?:.*[.:;)] )?Kept[:,] ", line.strip() + " ") for line in lines)
+
+
+def head_of(lines, mark):
+    return lines[:next((k for k, line in enumerate(lines) if not line.startswith(mark)), len(lines))]
 
 
 def kept_in_proofs(p):
     """Whether a comment at the head of the place's file or right above the place says why it stays."""
     lines = text_of(p.path).split("\n")
-    head = next((k for k, line in enumerate(lines) if not line.startswith("--")), len(lines))
-    return any(line.strip().startswith("-- Kept: ") for line in lines[:head] + comment_block(lines, p.line))
+    return says_kept(head_of(lines, "--") + comment_block(lines, p.line, "--"), "--")
+
+
+def spans(code, path):
+    """The first and the last line of each function and type of a file, with the comment above it."""
+    for f in code.fns:
+        if f.path == path:
+            yield f.line, f.body_line + f.body.count("\n")
+    for t in code.types:
+        if t.path == path:
+            yield t.line, t.line + next(k for k, line in enumerate(code.raw[path][t.line - 1:]) if line.startswith("}") or ";" in line or line.endswith("}"))
+
+
+def kept_in_code(code, p):
+    """Whether a comment says why: in the place's function or type or above it, at the head of the file, or, with the words "here and", in the file."""
+    lines = code.raw[p.path]
+    of_file = [line for line in lines if re.search(r"Kept[:,].*\bhere and\b", line)]
+    around = [s for s in spans(code, p.path) if s[0] - len(comment_block(lines, s[0], "//")) < p.line <= s[1]]
+    near = comment_block(lines, p.line, "//")
+    for first, last in around:
+        near = near + comment_block(lines, first, "//") + lines[first:last]
+    return says_kept(head_of(lines, "//") + of_file + near, "//")
+
+
+def is_kept(code, p):
+    return kept_in_proofs(p) if p.path.endswith(".antt") else kept_in_code(code, p)
 
 
 # OUTPUT
@@ -664,10 +699,14 @@ def show_places(code, n):
 
 
 def show_kept(code):
-    kept = [p for p in point_8(code) if p.part[0] != "~" and kept_in_proofs(p)]
-    for p in kept:
-        print("%s:%d  [%s] %s" % (p.path.replace("crates/", "", 1), p.line, p.part, p.text))
-    print("%d kept with a reason" % len(kept))
+    rest = []
+    for n, point in enumerate(POINTS, 1):
+        places = [p for p in point(code) if p.part[0] != "~"]
+        left = [p for p in places if not is_kept(code, p)]
+        print("%d  %d places, %d kept, %d without a reason" % (n, len(places), len(places) - len(left), len(left)))
+        rest += [(n, p) for p in left]
+    for n, p in rest:
+        print("%d  %s:%d  [%s] %s" % (n, p.path.replace("crates/", "", 1), p.line, p.part, p.text))
 
 
 def show_table(code):

@@ -9,7 +9,7 @@ ghost use Rattle.std.specs.Prelude.{◌<◌, OnSome, length};
 use std::io;
 use testing::{Spaced, Stored};
 
-// Kept: the form of collision_test's case and of its reader, by chance: each call has two numbers and a list of words.
+// Kept, here and in the reader that follows: the form of collision_test's, by chance: each call has two numbers and a list of words.
 #[derive(Drop)]
 struct Case<'a> {
     count: u8,

@@ -199,7 +199,7 @@ fn constraint_of(words: &[u16]) -> Constraint
 }
 
 // The constraint bars the move from u to v at its time.
-// Kept: a match on the two constraints here and in the slots: each is one definition, by the same cases.
+// Kept: a match on the two constraints, here and in the slots: each is one definition, by the same cases.
 fn bars_move(bar: Constraint, u: usize, v: usize) -> bool
     ensures { result ≡ moves u v bar }
 {

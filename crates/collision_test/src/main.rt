@@ -8,7 +8,7 @@ use deck::{Cause, Collision};
 use std::io;
 use testing::Stored;
 
-// Kept: the form of assignment_test's case and of its reader, by chance: each call has two numbers and a list of words.
+// Kept, here and in the reader that follows: the form of assignment_test's, by chance: each call has two numbers and a list of words.
 #[derive(Drop)]
 struct Case<'a> {
     count: u8,

@@ -31,7 +31,7 @@ pub struct Open {
 
 // THE CHOICE
 
-// Kept: words, limit, nodes made and least keys as parameters: others write the words between these calls, so no type owns both.
+// Kept, here and in the calls on keys that follow: words, limit, nodes made and least keys as parameters: others write the words between these calls, so no type owns both.
 
 // The least of the keys: one pass without a branch.
 #[tactic(auto, using(crate::proofs::Picks::least_more))]
@@ -105,7 +105,7 @@ pub fn enter(work: &[u32], limit: usize, from: usize, made: usize, lows: &mut [u
 
 // CONSTRAINTS ALONG THE LINKS
 
-// The carrier that a constraint binds.
+// The carrier that a constraint binds. Kept: a match, which is the definition's own.
 pub fn bound_by(c: Constraint) -> Carrier
     ensures { result.0 ≡ bound_by c }
 {

@@ -8,7 +8,7 @@ ghost use Rattle.pack.specs.Pack.{tab, digit_of, step_at, value, pack_of, place_
 // How many steps a word holds.
 const STEPS: usize = 13;
 
-// Kept: w ≤ 32 in each contract: a type for a width would only be taken apart again.
+// Kept, here and in each contract that follows: w ≤ 32: a type for a width would only be taken apart again.
 
 // The digit of the step from p to q on a grid of width w: wait, up, left, right, down.
 #[tactic(auto, unfolding(crate::specs::Pack::digit_of))]

@@ -1,8 +1,7 @@
 -- Lists of padded goals filled from the front, and turned round. Assumes nothing.
 use Prim.Native.Nat.{ℕ, suc, ◌+◌, ◌-◌, ◌≤◌, ◌<◌}
 use Rattle.std.proofs.Common.{◌≡◌, sym, ap, ◌∙◌, subst, ⊎_elim, List, [], ◌∷◌, ◌++◌, reverse, eq-or-lt_of_le, arith, length, get_or, set, take, get_or-set_same, get_or-set_other, get_or-append-add, get_or-take, length-take-le}
-use mathlib.Core.List.{reverse-cons}
-use Rattle.std.proofs.lemmas.List.{length-reverse}
+use Rattle.std.proofs.lemmas.List.{length-reverse, reverse-append}
 use Rattle.std.proofs.Math.ListN.{get_or-append}
 use Rattle.bars.specs.Padded.{pad_of}
 use Rattle.layers.specs.Raise.{GoalsAt, Indexes}
@@ -22,10 +21,10 @@ reverse_at (x ∷ l) k h = ⊎_elim
     (λ e.
     let z : k ≡ length (reverse l) + 0 = omega (arith, length-reverse l) in
     let i : suc (length l) - 1 - k ≡ 0 = omega arith in
-    rw (reverse-cons x l, i) (subst (λ (y : ℕ). get_or (reverse l ++ x ∷ []) y 0 ≡ x) (sym z) (get_or-append-add (reverse l) (x ∷ []) 0 0)))
+    rw (reverse-append (x ∷ []) l, i) (subst (λ (y : ℕ). get_or (reverse l ++ x ∷ []) y 0 ≡ x) (sym z) (get_or-append-add (reverse l) (x ∷ []) 0 0)))
     (λ b.
     let i : suc (length l) - 1 - k ≡ suc (length l - 1 - k) = omega arith in
-    rw (reverse-cons x l, i) (get_or-append (reverse l) (x ∷ []) 0 k (omega (arith, length-reverse l)) ∙ reverse_at l k (omega arith)))
+    rw (reverse-append (x ∷ []) l, i) (get_or-append (reverse l) (x ∷ []) 0 k (omega (arith, length-reverse l)) ∙ reverse_at l k (omega arith)))
     (eq-or-lt_of_le h)
 
 -- goals turned round are the goals of the list turned round

@@ -19,7 +19,7 @@ fn answer(s: &[u8], work: &mut [u32], out: &mut [u16]) -> Result<SearchAnswer, C
     search::search(s, work, out)
 }
 
-// Kept: `text` is a lent buffer, in fixed memory; its length is part of the promise.
+// Kept, here and in `write`: `text` is a lent buffer, in fixed memory; its length is part of the promise.
 
 // THE TEXT of any sheet, whatever the lent words held: the first r bytes are its listing, whole; the others stay. The text of a
 // sheet longer than any accepted one is that of every sheet that begins with it, so that a reader may stop there. Workspace and output

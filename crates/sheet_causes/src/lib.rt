@@ -88,7 +88,7 @@ fn places_free(s: &[u8], p: &[u8]) -> bool
     (0..p.len() / 2).all(|k| is_free(s, nth_word(p, k)))
 }
 
-// x is one of the n places from the number `from` on.
+// x is one of the n places from the number `from` on. Kept, here and where a closure is handed on: that it can be called, which no type says.
 fn again<F: Fn(usize) -> usize>(n: usize, place: F, x: usize, from: usize) -> bool
     requires { F.IsAlwaysCallable place }
     ensures { (l : List ℕ) → n ≡ length l → ((k y : ℕ) → F.post place k y → y ≡ get_or l k 0) → result ≡ has x (drop from l) }

@@ -42,7 +42,7 @@ impl<'a> Stored<'a> {
     }
 
     // The next two-byte value, low byte first.
-    // Kept: `double_word` beside it, of the same form: one function for both would need a trait over the two types.
+    // Kept, here and in `double_word` beside it, of the same form: one function for both would need a trait over the two types.
     pub fn word(&mut self) -> Option<u16>
         ensures { IfSome result (λ x. (x ≡ from_le_bytes w16 (take 2 self.old.rest.now)) × (self.old.rest.now ≡ take 2 self.old.rest.now ++ self.new.rest.now) × (2 ≤ length self.old.rest.now)) }
     {
