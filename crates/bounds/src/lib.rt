@@ -10,7 +10,7 @@ ghost use Rattle.passes.specs.Listed.{listed};
 ghost use Rattle.bounds.specs.Low.{Low};
 ghost use Rattle.bounds.specs.Graded.{Given, Graded};
 
-use bars::{Layer, Size};
+use bars::Layer;
 use deck::Task;
 use grid::Grid;
 use passes::Goals;
@@ -62,11 +62,8 @@ pub fn bounds(sheet: AcceptedSheet, task: Task, mask: &Layer, table: &mut [u8])
     requires { (task.0 < count_of sheet.bytes.now) × MaskOf (read sheet.bytes.now) mask.now × (length table.old ≡ 9216) }
     ensures { Low (read sheet.entry.bytes.now) task table.new }
 {
-    let size = Size {
-        width: sheet.width(),
-        height: sheet.height(),
-    };
-    let goals = Goals::of(&sheet, size, task);
+    let size = passes::size_of(&sheet);
+    let goals = Goals::of(&sheet, task);
     let route = Route {
         sheet,
         task,

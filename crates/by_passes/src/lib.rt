@@ -45,7 +45,7 @@ pub fn least(errand: &Errand, bound: usize, work: &mut [u32], out: &mut [u16]) -
         sheet,
         mask: errand.mask,
         task: errand.task,
-        goals: Goals::of(sheet, chains.size, errand.task),
+        goals: Goals::of(sheet, errand.task),
         chains: &chains,
     };
     let from = bound.max(chains.stay_from(sheet.last_goal(errand.task)));

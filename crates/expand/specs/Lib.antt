@@ -1,4 +1,3 @@
-pub mod Starts
 pub mod Given
 pub mod Held
 pub mod Children

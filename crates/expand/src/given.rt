@@ -5,22 +5,18 @@ ghost use Rattle.deck.specs.Assignments.{table_of};
 ghost use Rattle.bars.specs.Padded.{MaskOf};
 ghost use Rattle.prices.specs.Square.{copied};
 ghost use Rattle.scratch.specs.Bounded.{Bounded};
-ghost use Rattle.expand.specs.Starts.{StartsOf};
 
 use bars::Layer;
 use sheet::AcceptedSheet;
 
-// An accepted sheet and its mask, the working copy of its table of finishes, the starts of its carriers, and the lower bounds of its
-// tasks.
+// An accepted sheet and its mask, the working copy of its table of finishes, and the lower bounds of its tasks.
 #[derive(Clone, Copy)]
 pub struct Given<'a> {
     pub sheet: &'a AcceptedSheet<'a>,
     pub mask: &'a Layer,
     pub table: &'a [u16; 144],
-    pub starts: &'a [u16; 12],
     pub bounds: &'a [u8],
     pub ghost masked: { MaskOf (read sheet.now.bytes.now) mask.now },
     pub ghost table_is: { copied (read sheet.now.bytes.now).count table.now ≡ table_of (read sheet.now.bytes.now) },
-    pub ghost starts_are: { StartsOf (read sheet.now.bytes.now) starts.now },
     pub ghost bounded: { Bounded (read sheet.now.bytes.now) bounds.now },
 }

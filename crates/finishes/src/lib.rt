@@ -65,7 +65,7 @@ fn table_by<'a>(
     let mut table = [BARRED; 144];
     for j in 0..m {
         let task = Task(j);
-        let goals = Goals::of(sheet, chains.size, task).turned();
+        let goals = Goals::of(sheet, task).turned();
         let sweep = Sweep {
             sheet: &*sheet,
             task,
@@ -90,10 +90,7 @@ pub fn table(sheet: &AcceptedSheet, mask: &Layer) -> [u16; 144]
     requires { MaskOf (read sheet.now.bytes.now) mask.now }
     ensures { copied (count_of sheet.now.bytes.now) result ≡ table_of (read sheet.now.bytes.now) }
 {
-    let size = Size {
-        width: sheet.width(),
-        height: sheet.height(),
-    };
+    let size = passes::size_of(sheet);
     let mut links = [0u32; 0];
     let chains = Chains::new(size, &[], Carrier(0), &mut links);
     if layers::is_plain(mask, size) {

@@ -21,6 +21,16 @@ mod task_goals;
 
 pub use task_goals::Goals;
 
+// The size of the sheet's grid.
+pub fn size_of(sheet: &AcceptedSheet) -> Size
+    ensures { Sized sheet.now.bytes.now result.width result.height }
+{
+    Size {
+        width: sheet.width(),
+        height: sheet.height(),
+    }
+}
+
 // What a carrier's path is asked for by: an accepted sheet and its mask, the carrier and its task, and records of constraints.
 #[derive(Clone, Copy)]
 pub struct Errand<'a> {
@@ -38,11 +48,7 @@ impl Errand<'_> {
         requires { count_in self.now.records.now ≤ length links.old }
         ensures { Sized self.now.sheet.now.bytes.now result.size.width result.size.height × (result.carrier ≡ self.now.carrier) × (result.records.now ≡ self.now.records.now) }
     {
-        let size = Size {
-            width: self.sheet.width(),
-            height: self.sheet.height(),
-        };
-        Chains::new(size, self.records, self.carrier, links)
+        Chains::new(size_of(self.sheet), self.records, self.carrier, links)
     }
 }
 

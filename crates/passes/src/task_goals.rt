@@ -1,8 +1,8 @@
 // The goals of a task on the padded grid.
 ghost use Rattle.std.specs.Prelude.{◌≡◌, ◌≤◌, length, reverse};
-ghost use Rattle.passes.specs.Ready.{Sized, GoalsOf};
+ghost use Rattle.passes.specs.Ready.{GoalsOf};
 
-use bars::Size;
+use crate::size_of;
 use deck::Task;
 use sheet::AcceptedSheet;
 
@@ -18,10 +18,10 @@ impl Goals {
     ghost use Rattle.passes.specs.Listed.{listed};
 
     // The goals of the task, in their order. Kept: an index, which names the goal in the sheet and in the places.
-    pub fn of(sheet: &AcceptedSheet, size: Size, task: Task) -> Goals
-        requires { Sized sheet.now.bytes.now size.width size.height }
+    pub fn of(sheet: &AcceptedSheet, task: Task) -> Goals
         ensures { GoalsOf sheet.now.bytes.now task (listed result) }
     {
+        let size = size_of(sheet);
         let count = sheet.goal_count(task);
         let mut places = [0usize; 8];
         for k in 0..count {

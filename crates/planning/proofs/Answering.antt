@@ -24,8 +24,7 @@ use Rattle.nodes.proofs.Readers.{paths_read}
 use Rattle.roots.specs.Tournament.{NextTaken}
 use Rattle.roots.specs.Begun.{RootBegun}
 use Rattle.expand.specs.Held.{Begun}
-use Rattle.expand.specs.Starts.{StartsOf}
-use Rattle.turns.specs.Turns.{PlanAt}
+use Rattle.turns.specs.Turns.{StartsOf, PlanAt}
 
 -- THE STARTS, one more
 pub starts_more : (d : Sheet) (starts : List ℕ) (i x : ℕ) → i < length starts → ((k : ℕ) → k < i → get_or starts k 0 ≡ get_or d.starts k 0) → x ≡ get_or d.starts i 0

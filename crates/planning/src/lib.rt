@@ -9,9 +9,8 @@ ghost use Rattle.deck.specs.Search.{Answer};
 ghost use Rattle.deck.specs.Planner.{plan_for};
 ghost use Rattle.bars.specs.Padded.{MaskOf};
 ghost use Rattle.scratch.specs.Bounded.{Bounded};
-ghost use Rattle.expand.specs.Starts.{StartsOf};
 ghost use Rattle.expand.specs.Given.{sheet_of, Room};
-ghost use Rattle.turns.specs.Turns.{EndedWith};
+ghost use Rattle.turns.specs.Turns.{StartsOf, EndedWith};
 
 use bars::Layer;
 use deck::{Carrier, SearchAnswer, Task};
@@ -51,8 +50,15 @@ fn bounds_of(sheet: &AcceptedSheet, mask: &Layer, table: &mut [u8])
 }
 
 // The answer for the end of the search. Only a plan is written.
-fn answered(given: &Given, work: &[u32], end: End, out: &mut [u16]) -> SearchAnswer
+fn answered(
+    given: &Given,
+    starts: &[u16; 12],
+    work: &[u32],
+    end: End,
+    out: &mut [u16],
+) -> SearchAnswer
     requires room { Room given.now work.now }
+    requires starts { StartsOf (sheet_of given.now) starts.now }
     requires words { plan_words (sheet_of given.now) ≤ length out.old }
     requires ended { (a : Answer (List ℕ)) × EndedWith (sheet_of given.now) work.now end a }
     ensures { (a : Answer (List ℕ)) → EndedWith (sheet_of given.now) work.now end a → (result ≡ search_found a) × (out.new ≡ search_written a out.old) }
@@ -60,7 +66,6 @@ fn answered(given: &Given, work: &[u32], end: End, out: &mut [u16]) -> SearchAns
     let sheet = given.sheet;
     match end {
         End::Plan { node, made } => {
-            let starts = given.starts;
             let m = sheet.count();
             let last = sheet.horizon();
             nodes::write_paths(work, node.n, starts, sheet.width(), last, m, out);
@@ -82,20 +87,22 @@ fn answered(given: &Given, work: &[u32], end: End, out: &mut [u16]) -> SearchAns
 // The search from the first assignment on: its root is node 0.
 fn planned(
     given: &Given,
+    starts: &[u16; 12],
     work: &mut [u32],
     spare: &mut [u32; 8192],
     tasks: [u8; 12],
     out: &mut [u16],
 ) -> SearchAnswer
     requires room { Room given.now work.old }
+    requires starts { StartsOf (sheet_of given.now) starts.now }
     requires words { plan_words (sheet_of given.now) ≤ length out.old }
     requires by_index { (a : List ℕ) × (least_assignment (sheet_of given.now).count (table_of (sheet_of given.now)) ≡ Some a) × (tasks ≡ task_list a) }
     ensures { (result ≡ search_found (plan_for (sheet_of given.now))) × (out.new ≡ search_written (plan_for (sheet_of given.now)) out.old) }
 {
     roots::first_root(work, given.sheet.count(), given.table, tasks);
     expand::complete_root(given, work, spare, 0);
-    let end = turns::run(given, work, spare);
-    answered(given, work, end, out)
+    let end = turns::run(given, starts, work, spare);
+    answered(given, starts, work, end, out)
 }
 
 // The search of an accepted sheet that has bytes, with room enough.
@@ -117,8 +124,7 @@ pub fn accepted(s: &[u8], work: &mut [u32], out: &mut [u16]) -> SearchAnswer
         sheet: &sheet,
         mask: &mask,
         table: &table,
-        starts: &starts,
         bounds: &bounds,
     };
-    planned(&given, work, &mut spare, first.tasks, out)
+    planned(&given, &starts, work, &mut spare, first.tasks, out)
 }

@@ -68,7 +68,7 @@ fn by_walk(
         sheet,
         mask: errand.mask,
         task: errand.task,
-        goals: Goals::of(sheet, chains.size, errand.task),
+        goals: Goals::of(sheet, errand.task),
         chains: &chains,
     };
     let at = BOUNDS * errand.task.0;

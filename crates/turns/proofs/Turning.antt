@@ -30,9 +30,8 @@ use Rattle.nodes.specs.declared.Open.{Open}
 use Rattle.nodes.proofs.Kept.{close_stored, close_nodes, close_records}
 use Rattle.nodes.proofs.Readers.{accepted_fits, paths_read, tasks_read}
 use Rattle.roots.proofs.Begun.{slots_kept_records}
-use Rattle.expand.specs.Starts.{StartsOf}
 use Rattle.expand.specs.Held.{Held, NodeAt, Nodes}
-use Rattle.turns.specs.Turns.{Turning, TurnedTo}
+use Rattle.turns.specs.Turns.{StartsOf, Turning, TurnedTo}
 use Rattle.turns.specs.declared.End.{End}
 use Rattle.turns.specs.declared.End.TheVariants.{Plan, NoPlan}
 use Rattle.expand.specs.declared.Made.{Made}

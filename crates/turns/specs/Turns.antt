@@ -1,5 +1,5 @@
 -- What a turn and the end of the search on the workspace are to the definition's. Assumes nothing.
-use Rattle.std.specs.Prelude.{ℕ, ◌<◌, ◌≡◌, List}
+use Rattle.std.specs.Prelude.{ℕ, ◌<◌, ◌≡◌, List, get_or}
 use Rattle.std.specs.declared.ops.ControlFlow.{ControlFlow}
 use Rattle.std.specs.declared.ops.ControlFlow.TheVariants.{Continue, Break}
 use Rattle.deck.specs.Sheet.{Sheet}
@@ -15,6 +15,10 @@ use Rattle.expand.specs.Held.{Held}
 use Rattle.expand.specs.declared.Made.{Made}
 use Rattle.turns.specs.declared.End.{End}
 use Rattle.turns.specs.declared.End.TheVariants.{Plan, NoPlan, Spent}
+
+-- the starts of the sheet's carriers
+abbrev pub StartsOf : Sheet → List ℕ → Type 0
+StartsOf d starts = (i : ℕ) → i < d.count → get_or starts i 0 ≡ get_or d.starts i 0
 
 -- the state is held and keeps the search's invariant after k turns
 abbrev pub Turning : Sheet → List ℕ → ℕ → ℕ → ℕ → State (List ℕ) Constraint → Type 0

@@ -12,7 +12,7 @@ ghost use Rattle.nodes.specs.Nodes.{node_at, Lows};
 ghost use Rattle.meaning.specs.Constraints.{InRange};
 ghost use Rattle.expand.specs.Given.{sheet_of, Room};
 ghost use Rattle.expand.specs.Held.{Held, Holding, NodeAt, Nodes, Same};
-ghost use Rattle.turns.specs.Turns.{Turning, TurnedTo, EndedWith};
+ghost use Rattle.turns.specs.Turns.{StartsOf, Turning, TurnedTo, EndedWith};
 
 use deck::{Collision, Constraint};
 use expand::{Given, Made};
@@ -56,12 +56,17 @@ fn sides(c: Collision) -> (Constraint, Constraint)
 }
 
 // The first collision of the paths of node n, which are written over the first words of `paths`.
-fn collision_of(given: &Given, work: &[u32], n: usize, paths: &mut [u16; 3072]) -> Option<Collision>
-    requires { HasRecord work.now n }
+fn collision_of(
+    given: &Given,
+    starts: &[u16; 12],
+    work: &[u32],
+    n: usize,
+    paths: &mut [u16; 3072],
+) -> Option<Collision>
+    requires { StartsOf (sheet_of given.now) starts.now × HasRecord work.now n }
     ensures { result ≡ first_collision (sheet_of given.now).count (sheet_of given.now).horizon (node_at (sheet_of given.now) work.now n).paths }
 {
     let sheet = given.sheet;
-    let starts = given.starts;
     let m = sheet.count();
     let last = sheet.horizon();
     nodes::write_paths(work, n, starts, sheet.width(), last, m, paths);
@@ -96,6 +101,7 @@ fn expanded(
 // blocks are then those of the nodes that were made before.
 fn turn(
     given: &Given,
+    starts: &[u16; 12],
     work: &mut [u32],
     spare: &mut [u32; 8192],
     list: &mut [u16; 20480],
@@ -104,6 +110,7 @@ fn turn(
     paths: &mut [u16; 3072],
 ) -> ControlFlow<End, Made>
     requires room { Room given.now work.old }
+    requires starts { StartsOf (sheet_of given.now) starts.now }
     requires lows { Lows (sheet_of given.now).limit work.old made.nodes lows.old }
     requires by_index { (st : State (List ℕ) Constraint) × (k : ℕ) × Turning (sheet_of given.now) work.old made.nodes made.latest k st }
     ensures turned { (st : State (List ℕ) Constraint) (k : ℕ) → Turning (sheet_of given.now) work.old made.nodes made.latest k st → TurnedTo (sheet_of given.now) work.new result (turn (problem (sheet_of given.now)) (sheet_of given.now).limit cheapest st) }
@@ -114,7 +121,7 @@ fn turn(
         return ControlFlow::Break(End::NoPlan { made: made.nodes });
     };
     nodes::close(work, limit, made.nodes, node.n, lows);
-    let Some(c) = collision_of(given, work, node.n, paths) else {
+    let Some(c) = collision_of(given, starts, work, node.n, paths) else {
         return ControlFlow::Break(End::Plan {
             node,
             made: made.nodes,
@@ -124,8 +131,9 @@ fn turn(
 }
 
 // The turns, from the first root on.
-pub fn run(given: &Given, work: &mut [u32], spare: &mut [u32; 8192]) -> End
+pub fn run(given: &Given, starts: &[u16; 12], work: &mut [u32], spare: &mut [u32; 8192]) -> End
     requires room { Room given.now work.old }
+    requires starts { StartsOf (sheet_of given.now) starts.now }
     requires by_index { (a : List ℕ) × (rest : List (List ℕ)) × ((problem (sheet_of given.now)).assignments ≡ a ∷ rest) × Held (sheet_of given.now) work.old 1 1 (record { opened = root_of (problem (sheet_of given.now)) a ∷ []; made = 1; rest = rest }) }
     ensures { EndedWith (sheet_of given.now) work.new result (plan_for (sheet_of given.now)) }
 {
@@ -139,7 +147,9 @@ pub fn run(given: &Given, work: &mut [u32], spare: &mut [u32; 8192]) -> End
     };
     nodes::enter(work, limit, 0, made.nodes, &mut lows);
     for _ in 0..limit + 1 {
-        match turn(given, work, spare, &mut list, made, &mut lows, &mut paths) {
+        match turn(
+            given, starts, work, spare, &mut list, made, &mut lows, &mut paths,
+        ) {
             ControlFlow::Continue(more) => {
                 nodes::enter(work, limit, made.nodes, more.nodes, &mut lows);
                 made = more;

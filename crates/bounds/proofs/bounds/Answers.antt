@@ -7,7 +7,7 @@ use Rattle.bounds.proofs.bounds.Goals as goal
 pub invariant_of-route : goal.invariant_of-route
 invariant_of-route c = record {
   given = record { accepted = c.args.sheet.accepted; task_in = c.requires.0; masked = c.requires.1 };
-  sized = (c.width.ensures.value, c.height.ensures.value);
+  sized = c.size_of-size.ensures;
   goals_in_place = c.of-goals.ensures;
   has_goals = let r = goals_range c.args.sheet.bytes.now c.args.sheet.accepted c.args.task.0 c.requires.0 in (omega (arith, r, c.of-goals.ensures.many), omega (arith, r, c.of-goals.ensures.many));
 }

@@ -37,7 +37,7 @@ returns-in-Plan c a e =
     let p : PlanAt (sheet_of c.args.given.now) c.args.work.now c.in-Plan.made c.in-Plan.node.n c.in-Plan.node.cost a =
     subst (λ x. EndedWith (sheet_of c.args.given.now) c.args.work.now x a) c.in-Plan.is e in (
       plan_found d c.args.work.now _ _ _ a p _ (c.tasks.ensures ∙ ap (λ fs. bytes (tasks_in fs)) c.at.ensures),
-      plan_written d c.args.work.now _ _ _ a p _ _ _ c.args.given.now.starts.now c.args.out.now _ c.width.ensures.value c.horizon-last.ensures.value c.count-m.ensures.value c.args.given.now.starts_are c.write_paths.ensures,
+      plan_written d c.args.work.now _ _ _ a p _ _ _ c.args.starts.now c.args.out.now _ c.width.ensures.value c.horizon-last.ensures.value c.count-m.ensures.value c.requires.starts c.write_paths.ensures,
     )
 
 pub returns-in-NoPlan : goal.returns-in-NoPlan

@@ -15,7 +15,7 @@ write_paths-requires c =
     let sheet = c.args.given.now.sheet.now in
     let m = c.count-m.ensures.value in
     let last = c.horizon-last.ensures.value in (
-      c.requires,
+      c.requires.1,
       omega (arith, m, count_range sheet.bytes.now sheet.accepted),
       omega (arith, m, count_range sheet.bytes.now sheet.accepted),
       omega (arith, c.width.ensures.value, width_range sheet.bytes.now sheet.accepted),
@@ -32,8 +32,8 @@ first_among-requires c =
 
 pub returns : goal.returns
 returns c =
-    node_collision (sheet_of c.args.given.now) c.args.work.now c.args.n _ _ _ c.args.given.now.starts.now
+    node_collision (sheet_of c.args.given.now) c.args.work.now c.args.n _ _ _ c.args.starts.now
     c.width.ensures.value
     c.horizon-last.ensures.value
-    c.count-m.ensures.value c.args.given.now.starts_are _ _ _
+    c.count-m.ensures.value c.requires.0 _ _ _
     c.write_paths.ensures c.first_among.ensures

@@ -30,7 +30,7 @@ close-requires-clause-n_lt_made c =
 pub collision_of-requires : goal.collision_of-requires
 collision_of-requires c =
     let sheet = c.args.given.now.sheet.now in
-    omega (arith, c.close.auto.work, c.in-Some.ensures.inside, c.requires.by_index.2.0.within, room_of sheet.bytes.now sheet.accepted c.args.work.now c.requires.room)
+    (c.requires.starts, omega (arith, c.close.auto.work, c.in-Some.ensures.inside, c.requires.by_index.2.0.within, room_of sheet.bytes.now sheet.accepted c.args.work.now c.requires.room))
 
 pub returns-in_default-collision_of-clause-turned : goal.returns-in_default-collision_of-clause-turned
 returns-in_default-collision_of-clause-turned c =

@@ -1,5 +1,5 @@
 -- `Chains::is_free_at` meets its contract: a chain without a record bars nothing. Assumes nothing.
-use Rattle.std.proofs.Common.{sym, ap, ◌∙◌, not, get_or, eqb→eq}
+use Rattle.std.proofs.Common.{sym, ap, ◌∙◌, not, get_or, eqb-true}
 use Rattle.std.specs.List.{list_all}
 use Rattle.bars.specs.Bars.{count_in, moves, ours}
 use Rattle.bars.proofs.Walks.{ours_chain}
@@ -12,4 +12,4 @@ returns c e u v =
     move_ours s.records.now s.carrier.0 c.args.t u v
     ∙ ap (list_all (λ b. not (moves u v b)))
     (ours_chain s.records.now s.carrier.0 c.args.t (count_in s.records.now)
-    ∙ ap (ours s.records.now s.carrier.0 c.args.t) (sym (s.chained.head c.args.t c.requires) ∙ eqb→eq (get_or s.heads c.args.t 0) 0 (rw e tt)))
+    ∙ ap (ours s.records.now s.carrier.0 c.args.t) (sym (s.chained.head c.args.t c.requires) ∙ eqb-true (get_or s.heads c.args.t 0) 0 e))

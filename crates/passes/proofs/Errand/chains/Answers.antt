@@ -6,7 +6,7 @@ pub new-requires-clause-timely : goal.new-requires-clause-timely
 new-requires-clause-timely c = times_small c.args.self.now.ready
 
 pub new-requires-clause-on_grid : goal.new-requires-clause-on_grid
-new-requires-clause-on_grid c = rw c.width.ensures.value (on_layer c.args.self.now.ready)
+new-requires-clause-on_grid c = rw c.size_of.ensures.0 (on_layer c.args.self.now.ready)
 
 pub new-requires-clause-few : goal.new-requires-clause-few
 new-requires-clause-few c = few_records c.args.self.now.ready
