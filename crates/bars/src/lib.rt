@@ -21,7 +21,7 @@ pub type Layer = [u8; 1156];
 // Such a layer for each of the five ways, one after the other.
 pub type Ways = [u8; 5780];
 
-// The size of a grid: that of an accepted sheet. Kept: two numbers like those of nodes made, of which nothing else is the same.
+// The size of a grid: that of an accepted sheet. Kept: `expand::Made` has two numbers too, of another meaning.
 #[derive(Clone, Copy, Debug, PartialEq, Eq)]
 pub struct Size {
     pub width: usize,
@@ -155,8 +155,8 @@ impl Size {
         Some(CELLS * way as usize + b)
     }
 
-    // Where the mask of the way that the constraint bars in a pass of this direction stands. Kept: the direction, which is data of a pass
-    // and chosen at run time; a closure would be made by the same match.
+    // Where the mask of the way that the constraint bars in a pass of this direction stands. Kept: the direction is a field of a pass, so that
+    // one proof serves both directions.
     fn move_slot(self, bar: Constraint, direction: Direction) -> Option<usize>
         requires { OnPadded self.width bar }
         ensures { SlotIn 5780 (move_slot self.width (is_back direction) bar) result }
@@ -236,9 +236,9 @@ fn stay_after(bar: Constraint, carrier: Carrier, g: usize) -> usize
     }
 }
 
-// The constraints of one carrier on a grid of this size. Kept: chains of numbers in words that the caller lends: no heap, and up to 4096
-// records of five words each. Kept: t < 256 of each function: the passes count a time up and down, and a type would be left and made anew
-// at each step.
+// The constraints of one carrier on a grid of this size. Kept, here and in the methods that follow: chains of numbers, in an array of heads
+// and in words that the caller lends: no heap, and up to 4096 records of five words each. Kept: t < 256 of each method: a pass would have
+// to unpack such a type, count, and build it again at each step.
 #[derive(Drop)]
 pub struct Chains<'a> {
     pub size: Size,
@@ -254,7 +254,8 @@ pub struct Chains<'a> {
 impl<'a> Chains<'a> {
     ghost use Rattle.bars.specs.Rest.{rest_of};
 
-    // The chains of the carrier's constraints: the links stand in the lent words. Kept: an index, which is the record's number and its link.
+    // The chains of the carrier's constraints: the links stand in the lent words. Kept: an index, which is the record's number and its link;
+    // `chunks_exact` would leave the links to be zipped and the last words to be cut off.
     pub fn new(size: Size, records: &'a [u16], carrier: Carrier, links: &'a mut [u32]) -> Chains<'a>
         requires timely { Timely records.now }
         requires on_grid { OnLayer size.width records.now }

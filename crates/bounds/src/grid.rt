@@ -15,9 +15,8 @@ pub struct Grid<'a> {
 }
 
 impl Grid<'_> {
-    // Kept: the way is what is asked about, and the mask's byte stands at the place's own index.
     // Gives the padded place p the distance d, where it has a greater one and may be left by the way, and puts it into the queue. A
-    // blocked place has 0.
+    // blocked place has 0. Kept: the way is the subject of the question, and the mask's byte stands at the place's own index.
     fn mark(&self, dist: &mut Layer, queue: &mut Queue, p: usize, way: Way, d: u8)
         requires { p < 1156 }
         ensures { queue.new.head ≡ queue.old.head }

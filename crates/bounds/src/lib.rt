@@ -45,8 +45,8 @@ impl Route<'_, '_> {
         self.grid.store(&last, 1024 * (n - 1), table);
     }
 
-    // Kept: 1024 bytes to a label, as the table is lent, in fixed memory.
-    // The bounds with k goals visited: the steps to goal k, and the bound there with k + 1 visited.
+    // The bounds with k goals visited: the steps to goal k, and the bound there with k + 1 visited. Kept: 1024 bytes to a label: the table is
+    // lent, in fixed memory.
     fn level(&self, k: usize, table: &mut [u8])
         requires { (k < length (listed self.now.goals)) × Graded (read self.now.sheet.bytes.now) self.now.task (suc k) table.old }
         ensures { Graded (read self.now.sheet.bytes.now) self.now.task k table.new }

@@ -30,7 +30,8 @@ fn finish(course: &Course, bound: usize, from: usize, words: &mut [u32]) -> Opti
 }
 
 // The finish of the least path, where there is one, none finishing before `bound`; it is written only then.
-// Kept: `NotBefore`, the room of the output and what is written, here and in `scratch`: each is of the words or the bound of one call.
+// Kept: `NotBefore`, the room of the output and what is written, here and in `scratch`: they speak of one call's bound and output, which no
+// errand has.
 pub fn least(errand: &Errand, bound: usize, work: &mut [u32], out: &mut [u16]) -> Option<usize>
     requires not_before { NotBefore errand.now bound }
     requires words { room_for errand.now.sheet.now.bytes.now errand.now.records.now ≤ length work.old }

@@ -28,7 +28,7 @@ mod given;
 
 pub use given::Given;
 
-// How many nodes are made, and the number of the latest root + 1. Kept: two numbers like a grid's size, of which nothing else is the same.
+// How many nodes are made, and the number of the latest root + 1. Kept: `bars::Size` has two numbers too, of another meaning.
 #[derive(Clone, Copy, Debug, PartialEq, Eq)]
 pub struct Made {
     pub nodes: usize,
@@ -37,7 +37,7 @@ pub struct Made {
 
 // Kept, here and in the functions that follow: the lent words, the spare words and the list as parameters, and `Room` of the words. A struct
 // over them would ask of each function to promise again which words it holds and how many, as with the records.
-// Kept: `Same` and `Holding` of each step, which are the promise of the step and the invariant of the search, and hold of no value alone.
+// Kept: `Same` and `Holding` of each step: they relate the words before and after it.
 
 // THE ROOT
 

@@ -25,7 +25,8 @@ mod sweep;
 use entry::Entry;
 use sweep::Sweep;
 
-// The starts of the sheet's carriers, with no number of steps known. Kept: an index, which names the carrier in the sheet and in the list.
+// The starts of the sheet's carriers, with no number of steps known. Kept: an index, which names the carrier in the sheet; `iter_mut` with
+// `enumerate` would have the same number.
 fn entries_of(sheet: &AcceptedSheet, size: Size) -> [Entry; 12]
     requires { Sized sheet.now.bytes.now size.width size.height }
     ensures starts { Starts sheet.now.bytes.now (starts_in result) }

@@ -46,8 +46,8 @@ struct Walk<'a> {
 impl Walk<'_> {
     ghost use Rattle.first_walk.specs.Steps.{On, Remembers, Seen, Dived};
 
-    // The spot by the way, where a step to it is allowed and the task may still be finished in time. Kept: 1024 bytes to a label, as the bounds
-    // are lent, in fixed memory; and the way is what is asked about.
+    // The spot by the way, where a step to it is allowed and the task may still be finished in time. Kept: 1024 bytes to a label: the bounds
+    // are lent, in fixed memory; and the way is the subject of the question.
     fn look(&self, at: Spot, way: Way, failed: &Failed) -> Option<Spot>
         requires on { On self.now at }
         requires remembers { Remembers self.now failed.now.codes }

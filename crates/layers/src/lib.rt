@@ -15,9 +15,9 @@ ghost use Rattle.layers.specs.Packed.{FourAt, Kept, byte_in, kept_at, words_for}
 
 use bars::{CELLS, Chains, Direction, Layer, Size, Way, Ways};
 
-// Kept, here and in the loops that follow: the row and the end as numbers with their bounds: a size would be taken apart before the loop.
-// One step without constraints: one loop without branches, which the compiler turns into vector code. Kept: an index, here and in the
-// two loops that follow it: five stretches of the layers, each at an offset of its own, would be five slices zipped by fours.
+// One step without constraints: one loop without branches, which the compiler turns into vector code. Kept, here and in the loops that
+// follow: an index, since the stretches of the layers lie at offsets of their own: five slices in four nested zips, no plainer; and the
+// row and the end as numbers with their bounds, since a size would be unpacked before the loop.
 fn spread(src: &Layer, mask: &Layer, row: usize, end: usize, dst: &mut Layer)
     requires { (1 ≤ row) × (row ≤ 34) × (row ≤ end) × (end ≤ 1122) }
     ensures { Filled row end (spread_at src.now mask.now row) dst.old dst.new }
@@ -91,8 +91,8 @@ fn byte_of(x: u32, k: usize) -> u32
     (x >> (8 * k)) % 256
 }
 
-// The byte k of the bytes that are kept from the word `at` on. Kept: the place beside the words: a slice from there on would ask the
-// trace for a test of its bounds at each byte.
+// The byte k of the bytes that are kept from the word `at` on. Kept: the place beside the words: the clause speaks of the whole list, of
+// which a caller has the layer of each time.
 pub fn kept(work: &[u32], at: usize, k: usize) -> usize
     requires { (k < 4096) × (at + 1024 < 18446744073709551615) × (at + k / 4 < length work.now) }
     ensures { (result ≡ kept_at work.now at k) × (result < 256) }
@@ -116,8 +116,8 @@ pub fn is_plain(mask: &Layer, size: Size) -> bool
     worst == 0
 }
 
-// The byte of a place where the byte m has the bit of the way, and else 0. Kept: the way, here and in the functions that follow, is what is
-// asked about.
+// The byte of a place where the byte m has the bit of the way, and else 0. Kept, here and in the functions that follow: the way is the
+// subject of the question, and switches between no two steps.
 fn through(byte: u8, m: u8, way: Way) -> u8
     ensures { result ≡ cond (opens_by m (number_of way)) byte 0 }
 {
@@ -143,7 +143,7 @@ fn fill_way(
     }
 }
 
-// The bytes of the way. Kept: the direction, which is data of a pass and chosen at run time.
+// The bytes of the way. Kept: the direction is a field of a pass, so that one proof serves both directions.
 fn way_doors(mask: &Layer, size: Size, direction: Direction, way: Way, doors: &mut Ways)
     ensures { Filled (1156 * number_of way + row_of size.width) (1156 * number_of way + end_of size.width size.height) (λ q. door_at mask.now (row_of size.width) (is_back direction) (number_of way) (q - 1156 * number_of way)) doors.old doors.new }
 {
@@ -165,8 +165,8 @@ pub fn fill_doors(mask: &Layer, size: Size, direction: Direction, doors: &mut Wa
     }
 }
 
-// The bytes of the five ways where there are no doors: from above, left, the place itself, right, below. Kept: five stretches of one array,
-// as the loop of a step reads them.
+// The bytes of the five ways where there are no doors: from above, left, the place itself, right, below. Kept: no `chunks_exact_mut`,
+// whose contract says nothing of what is written through it.
 fn copies_of(mask: &Layer) -> Ways
     ensures { (length result ≡ 5780) × Copies mask.now [] result }
 {

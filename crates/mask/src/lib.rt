@@ -34,8 +34,9 @@ fn shade(b: u8, plain: bool) -> u8
     either(b, 1, 0, north)
 }
 
-// One row of the mask, of these grid bytes, at the padded place `at`. Kept: the place beside the bytes, and an index: the clause says what
-// stands in the whole mask. Kept: a flag, found once for the grid and tested in no round of the loop.
+// One row of the mask, of these grid bytes, at the padded place `at`. Kept: the place beside the bytes, and an index from there: the clause
+// says what stands in the whole mask, and the law of a list that is filled in order serves it. Kept: a flag, found once for the grid; the
+// compiler takes its test out of the loop.
 fn mask_row(row: &[u8], at: usize, plain: bool, mask: &mut Layer)
     requires { (at + length row.now ≤ 1156) × (plain ≡ true → Plain row.now) }
     ensures { Filled at (at + length row.now) (λ p. shade_of (get_or row.now (p - at) 0)) mask.old mask.new }

@@ -17,7 +17,8 @@ pub struct Goals {
 impl Goals {
     ghost use Rattle.passes.specs.Listed.{listed};
 
-    // The goals of the task, in their order. Kept: an index, which names the goal in the sheet and in the places.
+    // The goals of the task, in their order. Kept: an index, which names the goal in the sheet; `iter_mut` with `enumerate` would have the same
+    // number.
     pub fn of(sheet: &AcceptedSheet, task: Task) -> Goals
         ensures { GoalsOf sheet.now.bytes.now task (listed result) }
     {

@@ -22,7 +22,7 @@ use turns::End;
 // How many bytes the lower bounds of a task have.
 const BOUNDS: usize = 9216;
 
-// The starts of the carriers. Kept: an index, which names the carrier in the sheet and in the list.
+// The starts of the carriers. Kept: an index, which names the carrier in the sheet; `iter_mut` with `enumerate` would have the same number.
 fn starts_of(sheet: &AcceptedSheet) -> [u16; 12]
     ensures { StartsOf (read sheet.now.bytes.now) result }
 {

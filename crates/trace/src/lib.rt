@@ -51,8 +51,8 @@ struct Look<'a> {
 }
 
 impl<'a> Look<'a> {
-    // A step by the way leads to a free place, keeps the time and is not barred. Kept: the way, here and in the functions that follow, is what
-    // is asked about; it chooses no other step.
+    // A step by the way leads to a free place, keeps the time and is not barred. Kept, here and in the functions that follow: the way is the
+    // subject of the question, and switches between no two steps.
     fn way_on(&self, way: Way) -> bool
         ensures { result ≡ way_on (view self.now.kept.now self.now.t self.now.u self.now.p self.now.at self.now.k) (number_of way) }
     {

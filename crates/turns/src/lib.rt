@@ -55,7 +55,8 @@ fn sides(c: Collision) -> (Constraint, Constraint)
     }
 }
 
-// The first collision of the paths of node n, which are written over the first words of `paths`.
+// The first collision of the paths of node n, which are written over the first words of `paths`. Kept: `StartsOf`, here and in `planning`:
+// the starts stand beside `Given`, since nodes are made without them, and these functions alone ask for both.
 fn collision_of(
     given: &Given,
     starts: &[u16; 12],
