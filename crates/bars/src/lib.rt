@@ -236,6 +236,25 @@ fn stay_after(bar: Constraint, carrier: Carrier, g: usize) -> usize
     }
 }
 
+// The constraint of the record k.
+fn constraint_at(records: &[u16], k: usize) -> Constraint
+    requires { (k < count_in records.now) × (count_in records.now ≤ 4096) }
+    ensures { (result ≡ constraint_at records.now k) × OnTime result }
+{
+    constraint_of(&records[5 * k..5 * k + 5])
+}
+
+// The least time from which the carrier may stay on g, as far as the records say.
+pub fn stay_from(records: &[u16], carrier: Carrier, g: usize) -> usize
+    requires { count_in records.now ≤ 4096 }
+    ensures { result ≡ stay_from carrier g (constraints_of records.now) }
+{
+    (0..records.len() / 5)
+        .map(|k| stay_after(constraint_at(records, k), carrier, g))
+        .max()
+        .unwrap_or(0)
+}
+
 // The constraints of one carrier on a grid of this size. Kept, here and in the methods that follow: chains of numbers, in an array of heads
 // and in words that the caller lends: no heap, and up to 4096 records of five words each. Kept: t < 256 of each method: a pass would have
 // to unpack such a type, count, and build it again at each step.
@@ -278,14 +297,6 @@ impl<'a> Chains<'a> {
             heads,
             links,
         }
-    }
-
-    // The constraint of the record k.
-    fn constraint(&self, k: usize) -> Constraint
-        requires { k < count_in self.now.records.now }
-        ensures { (result ≡ constraint_at self.now.records.now k) × OnTime result }
-    {
-        constraint_of(&self.records[5 * k..5 * k + 5])
     }
 
     // The carrier's constraints at t, the last first.
@@ -347,16 +358,6 @@ impl<'a> Chains<'a> {
             }
         }
     }
-
-    // The least time from which the carrier may stay on g, as far as its constraints say.
-    pub fn stay_from(&self, g: usize) -> usize
-        ensures { result ≡ stay_from self.now.carrier g (constraints_of self.now.records.now) }
-    {
-        (0..self.records.len() / 5)
-            .map(|k| stay_after(self.constraint(k), self.carrier, g))
-            .max()
-            .unwrap_or(0)
-    }
 }
 
 // The carrier's constraints at a time that are still to come.
@@ -382,6 +383,6 @@ impl<'a> Iterator for AtTime<'a> {
     fn next(&mut self) -> Option<Constraint> {
         let k = self.next.checked_sub(1)?;
         self.next = self.chains.links[k] as usize;
-        Some(self.chains.constraint(k))
+        Some(constraint_at(self.chains.records, k))
     }
 }

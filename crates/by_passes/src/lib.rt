@@ -49,7 +49,11 @@ pub fn least(errand: &Errand, bound: usize, work: &mut [u32], out: &mut [u16]) -
         goals: Goals::of(sheet, errand.task),
         chains: &chains,
     };
-    let from = bound.max(chains.stay_from(sheet.last_goal(errand.task)));
+    let from = bound.max(bars::stay_from(
+        errand.records,
+        errand.carrier,
+        sheet.last_goal(errand.task),
+    ));
     let end = finish(&course, bound, from, words)?;
     let kept = Kept {
         course: &course,

@@ -47,7 +47,7 @@ impl Sweep<'_> {
     {
         let horizon = self.sheet.horizon();
         let goal = self.pass.chains.size.pad(self.sheet.last_goal(self.task));
-        let mut a = self.pass.seed(0, goal);
+        let mut a = layers::seed(self.pass.chains, self.pass.goals, 0, goal);
         let mut b = [0u8; CELLS];
         let (mut src, mut dst) = (&mut a, &mut b);
         for k in 0..horizon {

@@ -178,6 +178,18 @@ fn copies_of(mask: &Layer) -> Ways
     ways
 }
 
+// The first layer: a walk stands on the padded place p alone, where no constraint bars it at `on`.
+pub fn seed(chains: &Chains, goals: &[usize], on: usize, p: usize) -> Layer
+    requires { (on < 256) × (p < 1156) × (length goals.now ≤ 8) × Indexes goals.now (length goals.now) }
+    ensures { Seeded chains.now.size.width chains.now.carrier (constraints_of chains.now.records.now) on goals.now (length goals.now) p result }
+{
+    let mut layer = [0u8; CELLS];
+    layer[p] = 1;
+    chains.clear(on, &mut layer);
+    raise(&mut layer, goals);
+    layer
+}
+
 // What a pass over layers goes by: the constraints of the carrier, the mask of the grid, where some places are lanes the bytes of the
 // ways, the direction, and the goals as padded places, backward in reverse.
 #[derive(Clone, Copy)]
@@ -231,17 +243,5 @@ impl<'a> Pass<'a> {
         self.advance(t, src, dst);
         self.chains.clear(on, dst);
         raise(dst, self.goals);
-    }
-
-    // The first layer: a walk stands on the padded place p alone, where no constraint bars it at `on`.
-    pub fn seed(&self, on: usize, p: usize) -> Layer
-        requires { (on < 256) × (p < 1156) }
-        ensures { Seeded self.now.chains.now.size.width self.now.chains.now.carrier (constraints_of self.now.chains.now.records.now) on self.now.goals.now (length self.now.goals.now) p result }
-    {
-        let mut layer = [0u8; CELLS];
-        layer[p] = 1;
-        self.chains.clear(on, &mut layer);
-        raise(&mut layer, self.goals);
-        layer
     }
 }

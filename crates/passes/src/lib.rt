@@ -107,7 +107,12 @@ impl<'a> Course<'a> {
             from,
         };
         let horizon = self.sheet.horizon();
-        let mut a = pass.seed(0, size.pad(self.sheet.start(self.chains.carrier)));
+        let mut a = layers::seed(
+            self.chains,
+            goals,
+            0,
+            size.pad(self.sheet.start(self.chains.carrier)),
+        );
         let mut b = [0u8; CELLS];
         let (mut src, mut dst) = (&mut a, &mut b);
         for t in 0..horizon {
@@ -158,7 +163,12 @@ impl<'a> Course<'a> {
         };
         let n = goals.len();
         let start = size.pad(self.sheet.start(self.chains.carrier));
-        let mut a = pass.seed(end, size.pad(self.sheet.last_goal(self.task)));
+        let mut a = layers::seed(
+            self.chains,
+            goals,
+            end,
+            size.pad(self.sheet.last_goal(self.task)),
+        );
         layers::keep(&a, size, words, end);
         let mut b = [0u8; CELLS];
         let (mut src, mut dst) = (&mut a, &mut b);

@@ -74,7 +74,11 @@ fn by_walk(
     let at = BOUNDS * errand.task.0;
     let bounds = &bounds[at..at + BOUNDS];
     let horizon = sheet.horizon();
-    let mut from = bound.max(chains.stay_from(sheet.last_goal(errand.task)));
+    let mut from = bound.max(bars::stay_from(
+        errand.records,
+        errand.carrier,
+        sheet.last_goal(errand.task),
+    ));
     for _ in 0..TRIES {
         if horizon < from {
             return Err(NoneBefore(from));

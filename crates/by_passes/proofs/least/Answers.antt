@@ -7,9 +7,8 @@ pub finish-requires-clause-early : goal.finish-requires-clause-early
 finish-requires-clause-early c =
     let e = c.args.errand.now in
     let h = c.chains-chains.ensures in
-    let stays = rw (h.1, h.2) at c.stay_from.ensures in
     rw (h.1, h.2) (early_of _ _ _ _ _ e.ready c.args.bound c.stay_from.result c.max-from.result c.requires.not_before
-    (rest_of _ _ _ _ _ e.ready c.stay_from.result c.last_goal.result stays c.last_goal.ensures.value)
+    (rest_of _ _ _ _ _ e.ready c.stay_from.result c.last_goal.result c.stay_from.ensures c.last_goal.ensures.value)
     c.max-from.ensures)
 
 pub returns-in_err-end-clause-answer : goal.returns-in_err-end-clause-answer

@@ -19,10 +19,8 @@ slice_bounds-bounds-end c = part_inside c.args.errand.now c.args.bounds.now c.re
 
 pub loop-init : goal.loop-init
 loop-init c =
-    let e = c.args.errand.now in
-    let h = c.chains-chains.ensures in
-    let stays = rw (h.1, h.2) at c.stay_from.ensures in (
-      early_of _ _ _ _ _ e.ready c.args.bound c.stay_from.result c.max-from.result c.requires.not_before (rest_of _ _ _ _ _ e.ready c.stay_from.result c.last_goal.result stays c.last_goal.ensures.value)
+    let e = c.args.errand.now in (
+      early_of _ _ _ _ _ e.ready c.args.bound c.stay_from.result c.max-from.result c.requires.not_before (rest_of _ _ _ _ _ e.ready c.stay_from.result c.last_goal.result c.stay_from.ensures c.last_goal.ensures.value)
           c.max-from.ensures,
       refl,
     )

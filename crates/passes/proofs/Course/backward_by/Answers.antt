@@ -8,7 +8,9 @@ invariant_of-pass c =
     let q = back_asks c.args.self.now (c.all-goals.ensures ∙ c.turned-turned.ensures) in record { passable = c.requires.passable; few_goals = q.0; goals_on = q.1 }
 
 pub seed-a-requires : goal.seed-a-requires
-seed-a-requires c = (time_small c.args.self.now c.requires.in_time, goal_small c.args.self.now c.last_goal.ensures.value c.pad.ensures)
+seed-a-requires c =
+    let q = back_asks c.args.self.now (c.all-goals.ensures ∙ c.turned-turned.ensures) in
+    (time_small c.args.self.now c.requires.in_time, goal_small c.args.self.now c.last_goal.ensures.value c.pad.ensures, q.0, q.1)
 
 pub keep-requires : goal.keep-requires
 keep-requires c = back_room c.args.self.now c.args.words.now c.args.end c.requires.in_time c.requires.room
