@@ -255,18 +255,16 @@ pub fn stay_from(records: &[u16], carrier: Carrier, g: usize) -> usize
         .unwrap_or(0)
 }
 
-// The constraints of one carrier on a grid of this size. Kept, here and in the methods that follow: chains of numbers, in an array of heads
+// The constraints of one carrier. Kept, here and in the methods that follow: chains of numbers, in an array of heads
 // and in words that the caller lends: no heap, and up to 4096 records of five words each. Kept: t < 256 of each method: a pass would have
 // to unpack such a type, count, and build it again at each step.
 #[derive(Drop)]
 pub struct Chains<'a> {
-    pub size: Size,
     pub records: &'a [u16],
     pub carrier: Carrier,
     heads: [u16; 256],
     links: &'a [u32],
     pub ghost few: { count_in records.now ≤ 4096 },
-    pub ghost on_grid: { OnLayer size.width records.now },
     pub ghost chained: { Chained records.now carrier.0 heads links.now },
 }
 
@@ -275,12 +273,11 @@ impl<'a> Chains<'a> {
 
     // The chains of the carrier's constraints: the links stand in the lent words. Kept: an index, which is the record's number and its link;
     // `chunks_exact` would leave the links to be zipped and the last words to be cut off.
-    pub fn new(size: Size, records: &'a [u16], carrier: Carrier, links: &'a mut [u32]) -> Chains<'a>
+    pub fn new(records: &'a [u16], carrier: Carrier, links: &'a mut [u32]) -> Chains<'a>
         requires timely { Timely records.now }
-        requires on_grid { OnLayer size.width records.now }
         requires few { count_in records.now ≤ 4096 }
         requires room { count_in records.now ≤ length links.old }
-        ensures { (result.size ≡ size) × (result.records.now ≡ records.now) × (result.carrier ≡ carrier) }
+        ensures { (result.records.now ≡ records.now) × (result.carrier ≡ carrier) }
     {
         let mut heads = [0u16; 256];
         for k in 0..records.len() / 5 {
@@ -291,7 +288,6 @@ impl<'a> Chains<'a> {
             }
         }
         Chains {
-            size,
             records,
             carrier,
             heads,
@@ -336,24 +332,24 @@ impl<'a> Chains<'a> {
     }
 
     // Shuts the ways that the carrier's move constraints bar at t. Kept: the direction, as in `move_slot`.
-    pub fn shut(&self, t: usize, direction: Direction, ways: &mut Ways)
-        requires { t < 256 }
-        ensures { Cleared (move_slot self.now.size.width (is_back direction)) (ours_at self.now.records.now self.now.carrier.0 t) ways.old ways.new }
+    pub fn shut(&self, size: Size, t: usize, direction: Direction, ways: &mut Ways)
+        requires { (t < 256) × OnLayer size.width self.now.records.now }
+        ensures { Cleared (move_slot size.width (is_back direction)) (ours_at self.now.records.now self.now.carrier.0 t) ways.old ways.new }
     {
         for bar in self.at(t) {
-            if let Some(x) = self.size.move_slot(bar, direction) {
+            if let Some(x) = size.move_slot(bar, direction) {
                 ways[x] = 0;
             }
         }
     }
 
     // Takes the labels off the places that the carrier's place constraints bar at t.
-    pub fn clear(&self, t: usize, layer: &mut Layer)
-        requires { t < 256 }
-        ensures { Cleared (place_slot self.now.size.width) (ours_at self.now.records.now self.now.carrier.0 t) layer.old layer.new }
+    pub fn clear(&self, size: Size, t: usize, layer: &mut Layer)
+        requires { (t < 256) × OnLayer size.width self.now.records.now }
+        ensures { Cleared (place_slot size.width) (ours_at self.now.records.now self.now.carrier.0 t) layer.old layer.new }
     {
         for bar in self.at(t) {
-            if let Some(x) = self.size.place_slot(bar) {
+            if let Some(x) = size.place_slot(bar) {
                 layer[x] = 0;
             }
         }

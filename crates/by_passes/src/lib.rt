@@ -46,6 +46,7 @@ pub fn least(errand: &Errand, bound: usize, work: &mut [u32], out: &mut [u16]) -
         sheet,
         mask: errand.mask,
         task: errand.task,
+        size: passes::size_of(sheet),
         goals: Goals::of(sheet, errand.task),
         chains: &chains,
     };

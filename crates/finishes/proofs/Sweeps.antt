@@ -1,8 +1,8 @@
 -- The backward pass of one task without constraints: its layers, and its column. Assumes nothing.
-use Rattle.std.proofs.Common.{ℕ, ◌+◌, ◌-◌, ◌≤◌, ◌<◌, ◌≡◌, ◌≢◌, sym, ◌∙◌, subst, T, List, [], reverse, length, get_or, replicate, Option, None, Bor, arith}
+use Rattle.std.proofs.Common.{ℕ, ◌+◌, ◌-◌, ◌≤◌, ◌<◌, ◌≡◌, ◌≢◌, sym, ◌∙◌, subst, List, [], reverse, length, get_or, replicate, Option, None, Bor, arith}
 use Rattle.std.proofs.lemmas.List.{length-map, length-reverse}
 use Rattle.deck.specs.Sheet.{Sheet, read, count_of, carrier, start_of, goals_of, last_goal, cause}
-use Rattle.deck.specs.Calls.{constraints_of, good_records}
+use Rattle.deck.specs.Calls.{constraints_of}
 use Rattle.deck.specs.declared.Task.{Task}
 use Rattle.sheet.proofs.Accepted.{count_range, start_on_grid}
 use Rattle.kernel.specs.Labels.{all_goals}
@@ -10,6 +10,8 @@ use Rattle.kernel.specs.Kernel.{hind}
 use Rattle.kernel.proofs.Table.{hind_timeless}
 use Rattle.bars.specs.Padded.{pad_of, Holds}
 use Rattle.bars.specs.Ways.{is_back}
+use Rattle.bars.specs.Bars.{OnLayer}
+use Rattle.bars.specs.declared.Size.{Size}
 use Rattle.bars.specs.declared.Chains.{Chains}
 use Rattle.layers.specs.Raise.{Indexes}
 use Rattle.layers.specs.Step.{Margin, Stepped, Seeded}
@@ -36,15 +38,15 @@ module _ (s : List ℕ) (ok : cause s ≡ None) (j : Task) (pass : Pass) (v : Se
   ready = record { accepted = ok; carrier_in = omega (arith, count_range s ok); task_in = v.task_in; masked = v.serving.masked; records = no_records d }
 
   -- the layer of the last goal
-  pub seeded_steps : (p : ℕ) → p ≡ pad_of pass.chains.now.size.width (last_goal d j) → (layer : List ℕ)
-      → Seeded pass.chains.now.size.width pass.chains.now.carrier (constraints_of pass.chains.now.records.now) 0 pass.goals.now many p layer → Holds d layer (steps d j 0)
+  pub seeded_steps : (p : ℕ) → p ≡ pad_of pass.size.width (last_goal d j) → (layer : List ℕ)
+      → Seeded pass.size.width pass.chains.now.carrier (constraints_of pass.chains.now.records.now) 0 pass.goals.now many p layer → Holds d layer (steps d j 0)
   unfolding constraints_of
   seeded_steps p e layer sd =
       hind_first s (carrier 0) j pass.mask.now [] ready _ _ v.serving.sized pass.goals.now v.turned p 0 e (rw (v.serving.first, v.serving.free) at sd)
 
   -- the layer of one step more
   pub stepped_steps : (k : ℕ) {src before after : List ℕ}
-      → Stepped pass.chains.now.size.width pass.chains.now.size.height pass.mask.now pass.chains.now.carrier (constraints_of pass.chains.now.records.now) 0 0 (is_back pass.direction) pass.goals.now many src before after
+      → Stepped pass.size.width pass.size.height pass.mask.now pass.chains.now.carrier (constraints_of pass.chains.now.records.now) 0 0 (is_back pass.direction) pass.goals.now many src before after
       → Holds d src (steps d j k) → Margin d.width d.height before → Holds d after (steps d j (k + 1))
   unfolding hind constraints_of
   stepped_steps k {src} {before} {after} st hs m =
@@ -87,7 +89,7 @@ module _ (s : List ℕ) (ok : cause s ≡ None) (j : Task) (pass : Pass) (v : Se
 
     -- the next layer is made
     pub passing_on : k < d.horizon → {next : List ℕ}
-        → Stepped pass.chains.now.size.width pass.chains.now.size.height pass.mask.now pass.chains.now.carrier (constraints_of pass.chains.now.records.now) 0 0 (is_back pass.direction) pass.goals.now many layer spare next
+        → Stepped pass.size.width pass.size.height pass.mask.now pass.chains.now.carrier (constraints_of pass.chains.now.records.now) 0 0 (is_back pass.direction) pass.goals.now many layer spare next
         → Passing s j (k + 1) next layer (steps_in after)
     passing_on l st = record {
       in_time = omega arith;
@@ -97,7 +99,7 @@ module _ (s : List ℕ) (ok : cause s ≡ None) (j : Task) (pass : Pass) (v : Se
     }
 
 -- The pass of a task over chains of no records
-module _ (s : List ℕ) (ok : cause s ≡ None) (j : Task) (b : j.0 < count_of s) (mask : List ℕ) (chains : Chains) (doors : Option (Bor (List ℕ))) (g : Serving s mask chains doors)
+module _ (s : List ℕ) (ok : cause s ≡ None) (j : Task) (b : j.0 < count_of s) (size : Size) (mask : List ℕ) (chains : Chains) (doors : Option (Bor (List ℕ))) (g : Serving s size mask chains doors)
     (goals turned : List ℕ) (of : GoalsOf s j goals) (e : turned ≡ reverse goals) where
   pub goals_turned : Turned s j turned
   goals_turned = turned_goals (read s).width (goals_of (read s) j) goals turned of e
@@ -106,3 +108,7 @@ module _ (s : List ℕ) (ok : cause s ≡ None) (j : Task) (b : j.0 < count_of s
   goals_on =
       back_on s (carrier 0) j mask [] (record { accepted = ok; carrier_in = omega (arith, count_range s ok); task_in = b; masked = g.masked; records = no_records (read s) })
       _ _ g.sized turned goals_turned
+
+  -- no record is off the grid
+  pub none_off_grid : OnLayer size.width chains.records.now
+  none_off_grid = rw g.free (λ k h. absurd (omega arith))

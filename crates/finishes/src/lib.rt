@@ -54,15 +54,16 @@ fn put_column(table: &mut [u16; 144], task: Task, entries: &[Entry])
 // The table over the ways with these doors. Kept: barred entries at first, which are document 01's 65535.
 fn table_by<'a>(
     sheet: &'a AcceptedSheet<'a>,
+    size: Size,
     mask: &'a Layer,
     chains: &'a Chains<'a>,
     doors: Option<&'a Ways>,
 ) -> [u16; 144]
-    requires { Serving sheet.now.bytes.now mask.now chains.now doors }
+    requires { Serving sheet.now.bytes.now size mask.now chains.now doors }
     ensures { copied (count_of sheet.now.bytes.now) result ≡ table_of (read sheet.now.bytes.now) }
 {
     let m = sheet.count();
-    let starts = entries_of(sheet, chains.size);
+    let starts = entries_of(sheet, size);
     let mut table = [BARRED; 144];
     for j in 0..m {
         let task = Task(j);
@@ -71,6 +72,7 @@ fn table_by<'a>(
             sheet: &*sheet,
             task,
             pass: Pass {
+                size,
                 chains: &*chains,
                 mask: &*mask,
                 doors,
@@ -93,11 +95,11 @@ pub fn table(sheet: &AcceptedSheet, mask: &Layer) -> [u16; 144]
 {
     let size = passes::size_of(sheet);
     let mut links = [0u32; 0];
-    let chains = Chains::new(size, &[], Carrier(0), &mut links);
+    let chains = Chains::new(&[], Carrier(0), &mut links);
     if layers::is_plain(mask, size) {
-        return table_by(sheet, mask, &chains, None);
+        return table_by(sheet, size, mask, &chains, None);
     }
     let mut doors = [0u8; 5780];
     layers::fill_doors(mask, size, Direction::Backward, &mut doors);
-    table_by(sheet, mask, &chains, Some(&doors))
+    table_by(sheet, size, mask, &chains, Some(&doors))
 }

@@ -46,8 +46,8 @@ impl Sweep<'_> {
         ensures { Whole (read self.now.sheet.now.bytes.now) self.now.task (steps_in entries.new) }
     {
         let horizon = self.sheet.horizon();
-        let goal = self.pass.chains.size.pad(self.sheet.last_goal(self.task));
-        let mut a = layers::seed(self.pass.chains, self.pass.goals, 0, goal);
+        let goal = self.pass.size.pad(self.sheet.last_goal(self.task));
+        let mut a = layers::seed(self.pass.chains, self.pass.size, self.pass.goals, 0, goal);
         let mut b = [0u8; CELLS];
         let (mut src, mut dst) = (&mut a, &mut b);
         for k in 0..horizon {

@@ -49,7 +49,7 @@ pub record Given (s : List ℕ) (i : Carrier) (j : Task) (mask goals rs table : 
 
 pub given_of : (w : Walk)
     → Given w.course.now.sheet.now.bytes.now (carrier_of w.course.now) w.course.now.task w.course.now.mask.now (listed w.course.now.goals) w.course.now.chains.now.records.now w.bounds.now
-    w.course.now.chains.now.size.width w.course.now.chains.now.size.height w.end w.last
+    w.course.now.size.width w.course.now.size.height w.end w.last
 given_of w = record { ready = w.course.now.ready; on_goals = w.course.now.goals_at; sized = w.course.now.sized; low = w.low; long = w.long; in_time = w.in_time; final = w.ends }
 
 module _ {s : List ℕ} {i : Carrier} {j : Task} {mask goals rs table : List ℕ} {wide high end last : ℕ} (g : Given s i j mask goals rs table wide high end last)

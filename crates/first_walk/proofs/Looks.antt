@@ -15,12 +15,12 @@ use Rattle.first_walk.specs.Slots.{slot_of, code_of}
 use Rattle.first_walk.specs.Steps.{On, Remembers, Seen}
 use Rattle.first_walk.proofs.Looking.{given_of, width_small, place_small, spot, spot_is, spot_small, blocked_way, closed_way, Opens, way_enough, open_way, open_small, count_small, too_late, was_dead, barred_move, barred_place, clear_way}
 
-module _ (w : Walk) (at : Spot) (o : On w at) (way : Way) {row q : ℕ} (er : row ≡ row_of w.course.now.chains.now.size.width) (eq : q ≡ move_by row at.padded (number_of way)) where
+module _ (w : Walk) (at : Spot) (o : On w at) (way : Way) {row q : ℕ} (er : row ≡ row_of w.course.now.size.width) (eq : q ≡ move_by row at.padded (number_of way)) where
   abbrev x : ℕ
   x = number_of way
 
   abbrev wide : ℕ
-  wide = w.course.now.chains.now.size.width
+  wide = w.course.now.size.width
 
   abbrev goals : List ℕ
   goals = listed w.course.now.goals

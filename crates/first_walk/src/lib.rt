@@ -56,11 +56,11 @@ impl Walk<'_> {
     {
         let mask = self.course.mask;
         let chains = self.course.chains;
-        let padded = way.from(chains.size.row(), at.padded);
+        let padded = way.from(self.course.size.row(), at.padded);
         if mask[padded] == 0 {
             return None;
         }
-        let place = way.from(chains.size.width, at.place);
+        let place = way.from(self.course.size.width, at.place);
         let visited = trace::visit(self.course.goals.all(), at.visited, padded);
         let next = Spot::new(at.time + 1, place, padded, visited);
         if self.end < next.time + usize::from(self.bounds[1024 * visited + place]) {
@@ -130,7 +130,7 @@ pub fn first_walk(
     if !chains.place_free(0, place) {
         return Ok(false);
     }
-    let padded = chains.size.pad(place);
+    let padded = course.size.pad(place);
     let visited = trace::visit(course.goals.all(), 0, padded);
     let last = course.sheet.last_goal(course.task);
     let walk = Walk {

@@ -7,6 +7,7 @@ ghost use Rattle.std.specs.List.{fold};
 ghost use Rattle.deck.specs.Calls.{constraints_of};
 ghost use Rattle.bars.specs.Padded.{row_of, end_of};
 ghost use Rattle.bars.specs.Ways.{number_of, is_back, opens_by};
+ghost use Rattle.bars.specs.Bars.{OnLayer};
 ghost use Rattle.layers.specs.Fill.{Filled};
 ghost use Rattle.layers.specs.Spread.{spread_at, spread_by};
 ghost use Rattle.layers.specs.Raise.{bumped, Raised, Indexes};
@@ -179,13 +180,13 @@ fn copies_of(mask: &Layer) -> Ways
 }
 
 // The first layer: a walk stands on the padded place p alone, where no constraint bars it at `on`.
-pub fn seed(chains: &Chains, goals: &[usize], on: usize, p: usize) -> Layer
-    requires { (on < 256) × (p < 1156) × (length goals.now ≤ 8) × Indexes goals.now (length goals.now) }
-    ensures { Seeded chains.now.size.width chains.now.carrier (constraints_of chains.now.records.now) on goals.now (length goals.now) p result }
+pub fn seed(chains: &Chains, size: Size, goals: &[usize], on: usize, p: usize) -> Layer
+    requires { (on < 256) × (p < 1156) × (length goals.now ≤ 8) × Indexes goals.now (length goals.now) × OnLayer size.width chains.now.records.now }
+    ensures { Seeded size.width chains.now.carrier (constraints_of chains.now.records.now) on goals.now (length goals.now) p result }
 {
     let mut layer = [0u8; CELLS];
     layer[p] = 1;
-    chains.clear(on, &mut layer);
+    chains.clear(size, on, &mut layer);
     raise(&mut layer, goals);
     layer
 }
@@ -194,12 +195,14 @@ pub fn seed(chains: &Chains, goals: &[usize], on: usize, p: usize) -> Layer
 // ways, the direction, and the goals as padded places, backward in reverse.
 #[derive(Clone, Copy)]
 pub struct Pass<'a> {
+    pub size: Size,
     pub chains: &'a Chains<'a>,
     pub mask: &'a Layer,
     pub doors: Option<&'a Ways>,
     pub direction: Direction,
     pub goals: &'a [usize],
-    pub ghost passable: { Passable mask.now chains.now.size.width chains.now.size.height (is_back direction) doors },
+    pub ghost passable: { Passable mask.now size.width size.height (is_back direction) doors },
+    pub ghost on_grid: { OnLayer size.width chains.now.records.now },
     pub ghost few_goals: { length goals.now ≤ 8 },
     pub ghost goals_on: { Indexes goals.now (length goals.now) },
 }
@@ -218,10 +221,10 @@ impl<'a> Pass<'a> {
     // The labels one step on, or back: over all ways where the carrier has no constraint at t, and else over those that are left.
     fn advance(&self, t: usize, src: &Layer, dst: &mut Layer)
         requires { t < 256 }
-        ensures { Advanced self.now.chains.now.size.width self.now.chains.now.size.height self.now.mask.now self.now.chains.now.carrier (constraints_of self.now.chains.now.records.now) t (is_back self.now.direction) src.now dst.old dst.new }
+        ensures { Advanced self.now.size.width self.now.size.height self.now.mask.now self.now.chains.now.carrier (constraints_of self.now.chains.now.records.now) t (is_back self.now.direction) src.now dst.old dst.new }
     {
-        let row = self.chains.size.row();
-        let end = self.chains.size.end();
+        let row = self.size.row();
+        let end = self.size.end();
         if self.chains.is_free_at(t) {
             match self.doors {
                 Some(doors) => spread_ways(src, doors, row, end, dst),
@@ -229,7 +232,7 @@ impl<'a> Pass<'a> {
             }
         } else {
             let mut ways = self.ways();
-            self.chains.shut(t, self.direction, &mut ways);
+            self.chains.shut(self.size, t, self.direction, &mut ways);
             spread_ways(src, &ways, row, end, dst);
         }
     }
@@ -238,10 +241,10 @@ impl<'a> Pass<'a> {
     // by the goals. Backward the moves are turned round.
     pub fn step(&self, t: usize, on: usize, src: &Layer, dst: &mut Layer)
         requires { (t < 256) × (on < 256) }
-        ensures { Stepped self.now.chains.now.size.width self.now.chains.now.size.height self.now.mask.now self.now.chains.now.carrier (constraints_of self.now.chains.now.records.now) t on (is_back self.now.direction) self.now.goals.now (length self.now.goals.now) src.now dst.old dst.new }
+        ensures { Stepped self.now.size.width self.now.size.height self.now.mask.now self.now.chains.now.carrier (constraints_of self.now.chains.now.records.now) t on (is_back self.now.direction) self.now.goals.now (length self.now.goals.now) src.now dst.old dst.new }
     {
         self.advance(t, src, dst);
-        self.chains.clear(on, dst);
+        self.chains.clear(self.size, on, dst);
         raise(dst, self.goals);
     }
 }

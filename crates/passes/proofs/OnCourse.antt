@@ -13,7 +13,8 @@ use Rattle.passes.specs.Ready.{Turned}
 use Rattle.passes.specs.Listed.{listed}
 use Rattle.passes.specs.Courses.{sheet_of, carrier_of, bars_of, EarlyOn, LeastOn, can_finish, Roomy, BackedOn}
 use Rattle.passes.specs.declared.Course.{Course}
-use Rattle.passes.proofs.Given.{horizon_most}
+use Rattle.bars.specs.Bars.{OnLayer}
+use Rattle.passes.proofs.Given.{horizon_most, on_layer}
 use Rattle.passes.proofs.Turning.{turned_goals}
 use Rattle.passes.proofs.Passing.{forth_on, back_on, place_small, hind_first, hind_next, Swept, ends_here, ends_late, swept_on, swept_first, zeros_margin}
 use Rattle.passes.proofs.Backing.{layer_room, backed_first, backed_next, back_answer}
@@ -22,7 +23,7 @@ use Rattle.passes.proofs.Backing.{layer_room, backed_first, backed_next, back_an
 pub record Sweep (u : Course) (goals : List ℕ) (from p horizon : ℕ) : Type 0 where
   pub of_task : goals ≡ listed u.goals
   pub early : EarlyOn u from
-  pub at : p ≡ pad_of u.chains.now.size.width (last_goal (sheet_of u) u.task)
+  pub at : p ≡ pad_of u.size.width (last_goal (sheet_of u) u.task)
   pub last : horizon ≡ (sheet_of u).horizon
 
 -- where it is at t
@@ -41,10 +42,10 @@ module _ (u : Course) where
   s = u.sheet.now.bytes.now
 
   abbrev w : ℕ
-  w = u.chains.now.size.width
+  w = u.size.width
 
   abbrev h : ℕ
-  h = u.chains.now.size.height
+  h = u.size.height
 
   pub start_small : {v p : ℕ} → v ≡ start_of (sheet_of u) (carrier_of u) → p ≡ pad_of w v → p < 1156
   start_small {v} e f = place_small s (carrier_of u) u.task u.mask.now u.chains.now.records.now u.ready w h u.sized (rw e (start_on_grid s u.ready.accepted (carrier_of u))) f
@@ -54,6 +55,9 @@ module _ (u : Course) where
 
   pub time_small : {t : ℕ} → t ≤ (sheet_of u).horizon → t < 256
   time_small l = omega (arith, horizon_most u.ready)
+
+  pub records_on : OnLayer w u.chains.now.records.now
+  records_on = rw u.sized.0 (on_layer u.ready)
 
   -- Forward
   pub forth_asks : {goals : List ℕ} → goals ≡ listed u.goals → (length goals ≤ 8) × Indexes goals (length goals)

@@ -48,4 +48,4 @@ BackedOn c end t words = Backed c.sheet.now.bytes.now (carrier_of c) c.task c.ch
 
 -- the doors by which a pass goes in the one direction or the other
 abbrev pub DoorsOn : Course → Bool → Option (Bor (List ℕ)) → Type 0
-DoorsOn c back doors = Passable c.mask.now c.chains.now.size.width c.chains.now.size.height back doors
+DoorsOn c back doors = Passable c.mask.now c.size.width c.size.height back doors

@@ -46,9 +46,9 @@ impl Errand<'_> {
     // The chains of the carrier's constraints, their links in these words.
     pub fn chains<'b>(&'b self, links: &'b mut [u32]) -> Chains<'b>
         requires { count_in self.now.records.now ≤ length links.old }
-        ensures { Sized self.now.sheet.now.bytes.now result.size.width result.size.height × (result.carrier ≡ self.now.carrier) × (result.records.now ≡ self.now.records.now) }
+        ensures { (result.carrier ≡ self.now.carrier) × (result.records.now ≡ self.now.records.now) }
     {
-        Chains::new(size_of(self.sheet), self.records, self.carrier, links)
+        Chains::new(self.records, self.carrier, links)
     }
 }
 
@@ -58,10 +58,11 @@ pub struct Course<'a> {
     pub sheet: &'a AcceptedSheet<'a>,
     pub mask: &'a Layer,
     pub task: Task,
+    pub size: Size,
     pub goals: Goals,
     pub chains: &'a Chains<'a>,
     pub ghost ready: { Ready sheet.now.bytes.now chains.now.carrier task mask.now chains.now.records.now },
-    pub ghost sized: { Sized sheet.now.bytes.now chains.now.size.width chains.now.size.height },
+    pub ghost sized: { Sized sheet.now.bytes.now size.width size.height },
     pub ghost goals_at: { GoalsOf sheet.now.bytes.now task (listed goals) },
 }
 
@@ -92,9 +93,10 @@ impl<'a> Course<'a> {
         requires passable { DoorsOn self.now false doors }
         ensures { LeastIs self.now result }
     {
-        let size = self.chains.size;
+        let size = self.size;
         let goals = self.goals.all();
         let pass = Pass {
+            size,
             chains: self.chains,
             mask: self.mask,
             doors,
@@ -109,6 +111,7 @@ impl<'a> Course<'a> {
         let horizon = self.sheet.horizon();
         let mut a = layers::seed(
             self.chains,
+            size,
             goals,
             0,
             size.pad(self.sheet.start(self.chains.carrier)),
@@ -134,7 +137,7 @@ impl<'a> Course<'a> {
         requires { EarlyOn self.now from }
         ensures { LeastIs self.now result }
     {
-        let size = self.chains.size;
+        let size = self.size;
         if layers::is_plain(self.mask, size) {
             return self.forward_by(None, from);
         }
@@ -151,10 +154,11 @@ impl<'a> Course<'a> {
         ensures finished { result ≡ can_finish self.now end }
         ensures backed { BackedOn self.now end 0 words.new }
     {
-        let size = self.chains.size;
+        let size = self.size;
         let turned = self.goals.turned();
         let goals = turned.all();
         let pass = Pass {
+            size,
             chains: self.chains,
             mask: self.mask,
             doors,
@@ -165,6 +169,7 @@ impl<'a> Course<'a> {
         let start = size.pad(self.sheet.start(self.chains.carrier));
         let mut a = layers::seed(
             self.chains,
+            size,
             goals,
             end,
             size.pad(self.sheet.last_goal(self.task)),
@@ -188,7 +193,7 @@ impl<'a> Course<'a> {
         ensures finished { result ≡ can_finish self.now end }
         ensures backed { BackedOn self.now end 0 words.new }
     {
-        let size = self.chains.size;
+        let size = self.size;
         if layers::is_plain(self.mask, size) {
             return self.backward_by(None, end, words);
         }

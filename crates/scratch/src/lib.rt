@@ -68,6 +68,7 @@ fn by_walk(
         sheet,
         mask: errand.mask,
         task: errand.task,
+        size: passes::size_of(sheet),
         goals: Goals::of(sheet, errand.task),
         chains: &chains,
     };

@@ -175,7 +175,7 @@ on_layer kept t u k o =
     let d = sheet_of kept.course.now in
     omega (arith, ((free_meant d u).fact o.on_free).on_grid, (area_range kept.course.now.sheet.now.bytes.now kept.course.now.ready.accepted).1)
 
-pub time_fits : (kept : Kept) (t : ℕ) → t < kept.end → {n : ℕ} → words_for kept.course.now.chains.now.size.width kept.course.now.chains.now.size.height ≡ n → (t + 1) * n ≤ 262144
+pub time_fits : (kept : Kept) (t : ℕ) → t < kept.end → {n : ℕ} → words_for kept.course.now.size.width kept.course.now.size.height ≡ n → (t + 1) * n ≤ 262144
 time_fits kept t l {n} e =
     let c = kept.course.now in
     let d = sheet_of c in
@@ -185,12 +185,12 @@ time_fits kept t l {n} e =
 
 -- a look of the code
 module _ (kept : Kept) (t u k : ℕ) (l : t < kept.end) (o : OnTime (sheet_of kept.course.now) (carrier_of kept.course.now) kept.course.now.task (bars_of kept.course.now) (kept.end - t) t u k)
-    {p at : ℕ} (ep : p ≡ pad_of kept.course.now.chains.now.size.width u) (ea : at ≡ (t + 1) * words_for kept.course.now.chains.now.size.width kept.course.now.chains.now.size.height) where
+    {p at : ℕ} (ep : p ≡ pad_of kept.course.now.size.width u) (ea : at ≡ (t + 1) * words_for kept.course.now.size.width kept.course.now.size.height) where
   abbrev c : Course
   c = kept.course.now
 
   abbrev wide : ℕ
-  wide = c.chains.now.size.width
+  wide = c.size.width
 
   abbrev all : ℕ
   all = length (listed c.goals)

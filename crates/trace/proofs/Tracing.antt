@@ -15,10 +15,10 @@ use Rattle.trace.proofs.Looking.{visited_first, visited_raised}
 
 module _ (u : Course) {goals : List ℕ} (e : goals ≡ listed u.goals) where
   abbrev w : ℕ
-  w = u.chains.now.size.width
+  w = u.size.width
 
   z : 0 < w
-  z = u.chains.now.size.wide.0
+  z = u.size.wide.0
 
   goals_here : GoalsAt w (goals_of (sheet_of u) u.task) goals (length goals)
   goals_here = rw (e, u.sized.0) u.goals_at

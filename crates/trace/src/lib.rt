@@ -57,7 +57,7 @@ impl<'a> Look<'a> {
         ensures { result ≡ way_on (view self.now.kept.now self.now.t self.now.u self.now.p self.now.at self.now.k) (number_of way) }
     {
         let course = self.kept.course;
-        let size = course.chains.size;
+        let size = course.size;
         let q = way.from(size.row(), self.p);
         course.mask[q] != 0
             && course.goals.count()
@@ -89,7 +89,7 @@ impl<'a> Kept<'a> {
         requires on_time { OnTime (sheet_of self.now.course.now) (carrier_of self.now.course.now) self.now.course.now.task (bars_of self.now.course.now) (self.now.end - t) t u k }
         ensures { result ≡ first_of (onward (sheet_of self.now.course.now) (carrier_of self.now.course.now) self.now.course.now.task (bars_of self.now.course.now) (self.now.end - (t + 1)) t u k) (near (sheet_of self.now.course.now) u) }
     {
-        let size = self.course.chains.size;
+        let size = self.course.size;
         let look = Look {
             kept: self,
             t,
@@ -111,7 +111,7 @@ impl<'a> Kept<'a> {
         ensures { out.new ≡ overwrite (path_at (sheet_of self.now.course.now) (carrier_of self.now.course.now) self.now.course.now.task (bars_of self.now.course.now) ((sheet_of self.now.course.now).horizon - self.now.end) self.now.end) out.old }
     {
         let course = self.course;
-        let size = course.chains.size;
+        let size = course.size;
         let goals = course.goals.all();
         let mut u = course.sheet.start(course.chains.carrier);
         let mut k = visit(goals, 0, size.pad(u));

@@ -3,15 +3,16 @@ use Rattle.std.proofs.Common.{ℕ, ◌<◌, ◌≡◌, length, take, refl, subst
 use Rattle.deck.specs.Sheet.{read, count_of, task}
 use Rattle.finishes.specs.Entries.{steps_in}
 use Rattle.finishes.proofs.Marks.{starts_taken, unknown_taken}
-use Rattle.finishes.proofs.Sweeps.{goals_turned, goals_on}
+use Rattle.finishes.proofs.Sweeps.{goals_turned, goals_on, none_off_grid}
 use Rattle.finishes.proofs.Tabled.{Columns, columns_more, columns_all}
 use Rattle.finishes.proofs.table_by.Goals as goal
 
 pub invariant_of-sweep : goal.invariant_of-sweep
 invariant_of-sweep c =
     let s = c.args.sheet.now in
-    let on = goals_on s.bytes.now s.accepted (task c.loop-j.j) (omega (arith, c.count-m.ensures.value)) c.args.mask.now c.args.chains.now c.args.doors c.requires _ _ c.of.ensures (c.all.ensures ∙ c.turned-goals.ensures) in
-    record { passable = c.requires.passable; few_goals = on.0; goals_on = on.1 }
+    let on = goals_on s.bytes.now s.accepted (task c.loop-j.j) (omega (arith, c.count-m.ensures.value)) c.args.size c.args.mask.now c.args.chains.now c.args.doors c.requires _ _ c.of.ensures (c.all.ensures ∙ c.turned-goals.ensures) in
+    let grid = none_off_grid s.bytes.now s.accepted (task c.loop-j.j) (omega (arith, c.count-m.ensures.value)) c.args.size c.args.mask.now c.args.chains.now c.args.doors c.requires _ _ c.of.ensures (c.all.ensures ∙ c.turned-goals.ensures) in
+    record { passable = c.requires.passable; on_grid = grid; few_goals = on.0; goals_on = on.1 }
 
 pub invariant_of-sweep-in-loop-j : goal.invariant_of-sweep-in-loop-j
 invariant_of-sweep-in-loop-j c =
@@ -22,7 +23,7 @@ invariant_of-sweep-in-loop-j c =
         task_in = inside;
         serving = c.requires;
         backward = refl;
-        turned = goals_turned s.bytes.now s.accepted (task c.loop-j.j) inside c.args.mask.now c.args.chains.now c.args.doors c.requires _ _ c.of.ensures (c.all.ensures ∙ c.turned-goals.ensures);
+        turned = goals_turned s.bytes.now s.accepted (task c.loop-j.j) inside c.args.size c.args.mask.now c.args.chains.now c.args.doors c.requires _ _ c.of.ensures (c.all.ensures ∙ c.turned-goals.ensures);
       };
     }
 

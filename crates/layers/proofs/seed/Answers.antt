@@ -6,4 +6,4 @@ use Rattle.layers.proofs.seed.Goals as goal
 pub returns : goal.returns
 returns c =
     let h = c.args.chains.now in
-    all_seeded h.size.width h.records.now h.carrier.0 c.args.on c.args.goals.now _ c.args.p h.size.wide.0 c.requires.1 refl c.clear.ensures c.raise.ensures
+    all_seeded c.args.size.width h.records.now h.carrier.0 c.args.on c.args.goals.now _ c.args.p c.args.size.wide.0 c.requires.1 refl c.clear.ensures c.raise.ensures

@@ -35,19 +35,19 @@ pub returns-in-Ok-true : goal.returns-in-Ok-true
 returns-in-Ok-true c =
     let h = c.chains-chains.ensures in
     tried_found c.args.errand.now c.loop.from c.loop.invariant.0 (omega (arith, c.horizon-horizon.ensures.value, c.if-horizon-from.false)) c.args.out.now c.loop.out
-    c.first_walk.new.out c.loop.invariant.1 c.first_walk.result (rw (h.1, h.2) at c.first_walk.ensures) (c.in-Ok-true.is ∙ ap Ok c.in-Ok-true.field-0-test)
+    c.first_walk.new.out c.loop.invariant.1 c.first_walk.result (rw (h.0, h.1) at c.first_walk.ensures) (c.in-Ok-true.is ∙ ap Ok c.in-Ok-true.field-0-test)
 
 pub returns-in-Err : goal.returns-in-Err
 returns-in-Err c =
     let h = c.chains-chains.ensures in
     tried_cut c.args.errand.now c.loop.from c.loop.invariant.0 (omega (arith, c.horizon-horizon.ensures.value, c.if-horizon-from.false)) c.args.out.now c.loop.out
-    c.first_walk.new.out c.loop.invariant.1 c.first_walk.result (rw (h.1, h.2) at c.first_walk.ensures) c.in-Err.is
+    c.first_walk.new.out c.loop.invariant.1 c.first_walk.result (rw (h.0, h.1) at c.first_walk.ensures) c.in-Err.is
 
 pub loop-preserved : goal.loop-preserved
 loop-preserved c =
     let h = c.chains-chains.ensures in
     tried_later c.args.errand.now c.loop.from c.loop.invariant.0 (omega (arith, c.horizon-horizon.ensures.value, c.if-horizon-from.false)) c.args.out.now c.loop.out
-    c.first_walk.new.out c.loop.invariant.1 c.first_walk.result (rw (h.1, h.2) at c.first_walk.ensures) (c.in-Ok-false.is ∙ ap Ok c.in-Ok-false.field-0-test)
+    c.first_walk.new.out c.loop.invariant.1 c.first_walk.result (rw (h.0, h.1) at c.first_walk.ensures) (c.in-Ok-false.is ∙ ap Ok c.in-Ok-false.field-0-test)
 
 pub returns : goal.returns
 returns c = (early_bound c.args.errand.now c.loop.from c.loop.invariant.0, c.loop.invariant.1)

@@ -9,22 +9,22 @@ use Rattle.bars.proofs.Chains.clear.Goals as goal
 pub loop-bar-init : goal.loop-bar-init
 loop-bar-init c =
     let a = c.args in
-    clearing_begins 1156 (place_slot a.self.now.size.width) a.self.now.size.width (ap rest_of c.into_iter-bar-iterator.ensures.into_iter_gives ∙ c.at-bar-items.ensures)
-    (ours_on a.self.now.records.now a.self.now.carrier.0 a.t a.self.now.size.width a.self.now.on_grid) c.told-layer
+    clearing_begins 1156 (place_slot a.size.width) a.size.width (ap rest_of c.into_iter-bar-iterator.ensures.into_iter_gives ∙ c.at-bar-items.ensures)
+    (ours_on a.self.now.records.now a.self.now.carrier.0 a.t a.size.width c.requires.1) c.told-layer
 
 pub place_slot-requires : goal.place_slot-requires
-place_slot-requires c = let a = c.args in first_on 1156 (place_slot a.self.now.size.width) a.self.now.size.width c.loop-bar.invariant c.in-Some.ensures.steps
+place_slot-requires c = let a = c.args in first_on 1156 (place_slot a.size.width) a.size.width c.loop-bar.invariant c.in-Some.ensures.steps
 
 pub loop-bar-preserved-in-Some-place_slot : goal.loop-bar-preserved-in-Some-place_slot
 loop-bar-preserved-in-Some-place_slot c =
-    let a = c.args in one_cleared 1156 (place_slot a.self.now.size.width) a.self.now.size.width c.loop-bar.invariant c.in-Some.ensures.steps c.in-Some-place_slot.ensures.0
+    let a = c.args in one_cleared 1156 (place_slot a.size.width) a.size.width c.loop-bar.invariant c.in-Some.ensures.steps c.in-Some-place_slot.ensures.0
 
 pub loop-bar-preserved : goal.loop-bar-preserved
 loop-bar-preserved c =
     let a = c.args in
-    none_cleared 1156 (place_slot a.self.now.size.width) a.self.now.size.width c.loop-bar.invariant c.in-Some.ensures.steps (no_slot c.place_slot.ensures c.in_default.not-Some)
+    none_cleared 1156 (place_slot a.size.width) a.size.width c.loop-bar.invariant c.in-Some.ensures.steps (no_slot c.place_slot.ensures c.in_default.not-Some)
 
 pub returns : goal.returns
 returns c =
     let a = c.args in
-    all_cleared 1156 (place_slot a.self.now.size.width) a.self.now.size.width (ours_at a.self.now.records.now a.self.now.carrier.0 a.t) a.layer.now c.loop-bar.invariant c.told-layer c.in-None.ensures.steps.0
+    all_cleared 1156 (place_slot a.size.width) a.size.width (ours_at a.self.now.records.now a.self.now.carrier.0 a.t) a.layer.now c.loop-bar.invariant c.told-layer c.in-None.ensures.steps.0

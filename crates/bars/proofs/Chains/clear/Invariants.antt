@@ -6,5 +6,5 @@ use Rattle.bars.proofs.Chains.clear.Given as goal
 
 abbrev pub invariant-loop-bar : goal.invariant-loop-bar
 invariant-loop-bar l =
-    let slot = place_slot l.self.size.width in
-    Clearing 1156 slot l.self.size.width (rest_of l.bar-iterator) l.layer (clear_all 1156 slot (ours_at l.self.records.now l.self.carrier.0 l.t) l.initial.layer)
+    let slot = place_slot l.size.width in
+    Clearing 1156 slot l.size.width (rest_of l.bar-iterator) l.layer (clear_all 1156 slot (ours_at l.fn.self.records.now l.fn.self.carrier.0 l.t) l.initial.layer)

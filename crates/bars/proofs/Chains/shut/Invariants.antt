@@ -7,5 +7,5 @@ use Rattle.bars.proofs.Chains.shut.Given as goal
 
 abbrev pub invariant-loop-bar : goal.invariant-loop-bar
 invariant-loop-bar l =
-    let slot = move_slot l.self.size.width (is_back l.direction) in
-    Clearing 5780 slot l.self.size.width (rest_of l.bar-iterator) l.ways (clear_all 5780 slot (ours_at l.self.records.now l.self.carrier.0 l.t) l.initial.ways)
+    let slot = move_slot l.size.width (is_back l.direction) in
+    Clearing 5780 slot l.size.width (rest_of l.bar-iterator) l.ways (clear_all 5780 slot (ours_at l.fn.self.records.now l.fn.self.carrier.0 l.t) l.initial.ways)

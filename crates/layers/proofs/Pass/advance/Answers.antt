@@ -10,25 +10,25 @@ pub returns-in-Some : goal.returns-in-Some
 returns-in-Some c =
     let s = c.args.self.now in
     let h = s.chains.now in
-    let p = doors_of s.mask.now h.size.width h.size.height (is_back s.direction) s.doors s.passable in
+    let p = doors_of s.mask.now s.size.width s.size.height (is_back s.direction) s.doors s.passable in
     let d = c.in-Some.doors in
-    doors_advanced h.size.width h.size.height s.mask.now d.now h.records.now h.carrier.0 c.args.t (is_back s.direction) c.args.src.now c.args.dst.now _
-    h.size.wide.0 h.size.wide.1 h.size.high.1 (rw c.in-Some.is at p) c.told-dst (c.is_free_at.ensures c.if-is_free_at.true)
+    doors_advanced s.size.width s.size.height s.mask.now d.now h.records.now h.carrier.0 c.args.t (is_back s.direction) c.args.src.now c.args.dst.now _
+    s.size.wide.0 s.size.wide.1 s.size.high.1 (rw c.in-Some.is at p) c.told-dst (c.is_free_at.ensures c.if-is_free_at.true)
     (λ e. omega (arith, (s.passable.five d c.in-Some.is).size)) (rw (c.row-row.ensures, c.end-end.ensures) at c.spread_ways.ensures)
 
 pub returns-in-None : goal.returns-in-None
 returns-in-None c =
     let s = c.args.self.now in
     let h = s.chains.now in
-    let p = doors_of s.mask.now h.size.width h.size.height (is_back s.direction) s.doors s.passable in
-    plain_advanced h.size.width h.size.height s.mask.now (bytes_of s.doors) h.records.now h.carrier.0 c.args.t (is_back s.direction) c.args.src.now c.args.dst.now _
-    h.size.wide.0 h.size.wide.1 h.size.high.1 p c.told-dst (c.is_free_at.ensures c.if-is_free_at.true)
+    let p = doors_of s.mask.now s.size.width s.size.height (is_back s.direction) s.doors s.passable in
+    plain_advanced s.size.width s.size.height s.mask.now (bytes_of s.doors) h.records.now h.carrier.0 c.args.t (is_back s.direction) c.args.src.now c.args.dst.now _
+    s.size.wide.0 s.size.wide.1 s.size.high.1 p c.told-dst (c.is_free_at.ensures c.if-is_free_at.true)
     (ap (λ o. length (bytes_of o)) c.in-None.is) (rw (c.row-row.ensures, c.end-end.ensures) at c.spread.ensures)
 
 pub returns-else-is_free_at : goal.returns-else-is_free_at
 returns-else-is_free_at c =
     let s = c.args.self.now in
     let h = s.chains.now in
-    let p = doors_of s.mask.now h.size.width h.size.height (is_back s.direction) s.doors s.passable in
-    ways_advanced h.size.width h.size.height s.mask.now (bytes_of s.doors) h.records.now h.carrier.0 c.args.t (is_back s.direction) c.args.src.now c.args.dst.now _
-    h.size.wide.0 h.size.wide.1 h.size.high.1 p c.told-dst _ _ h.on_grid c.ways-ways.ensures c.shut.ensures (rw (c.row-row.ensures, c.end-end.ensures) at c.spread_ways-else-is_free_at.ensures)
+    let p = doors_of s.mask.now s.size.width s.size.height (is_back s.direction) s.doors s.passable in
+    ways_advanced s.size.width s.size.height s.mask.now (bytes_of s.doors) h.records.now h.carrier.0 c.args.t (is_back s.direction) c.args.src.now c.args.dst.now _
+    s.size.wide.0 s.size.wide.1 s.size.high.1 p c.told-dst _ _ s.on_grid c.ways-ways.ensures c.shut.ensures (rw (c.row-row.ensures, c.end-end.ensures) at c.spread_ways-else-is_free_at.ensures)

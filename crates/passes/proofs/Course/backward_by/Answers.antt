@@ -1,16 +1,16 @@
 -- `Course::backward_by` meets its contract: the layer of t, another to write to, and those kept. Assumes nothing.
 use Rattle.std.proofs.Common.{◌≡◌, ◌+◌, ◌-◌, ◌∙◌, arith}
-use Rattle.passes.proofs.OnCourse.{time_small, start_small, goal_small, back_asks, back_room, back_first, back_next, back_says}
+use Rattle.passes.proofs.OnCourse.{records_on, time_small, start_small, goal_small, back_asks, back_room, back_first, back_next, back_says}
 use Rattle.passes.proofs.Course.backward_by.Goals as goal
 
 pub invariant_of-pass : goal.invariant_of-pass
 invariant_of-pass c =
-    let q = back_asks c.args.self.now (c.all-goals.ensures ∙ c.turned-turned.ensures) in record { passable = c.requires.passable; few_goals = q.0; goals_on = q.1 }
+    let q = back_asks c.args.self.now (c.all-goals.ensures ∙ c.turned-turned.ensures) in record { passable = c.requires.passable; on_grid = records_on c.args.self.now; few_goals = q.0; goals_on = q.1 }
 
 pub seed-a-requires : goal.seed-a-requires
 seed-a-requires c =
     let q = back_asks c.args.self.now (c.all-goals.ensures ∙ c.turned-turned.ensures) in
-    (time_small c.args.self.now c.requires.in_time, goal_small c.args.self.now c.last_goal.ensures.value c.pad.ensures, q.0, q.1)
+    (time_small c.args.self.now c.requires.in_time, goal_small c.args.self.now c.last_goal.ensures.value c.pad.ensures, q.0, q.1, records_on c.args.self.now)
 
 pub keep-requires : goal.keep-requires
 keep-requires c = back_room c.args.self.now c.args.words.now c.args.end c.requires.in_time c.requires.room

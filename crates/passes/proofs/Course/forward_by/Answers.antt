@@ -1,16 +1,16 @@
 -- `Course::forward_by` meets its contract: where the pass is at t. Assumes nothing.
 use Rattle.std.proofs.Common.{◌≡◌, refl, subst, arith}
-use Rattle.passes.proofs.OnCourse.{SweptOn, forth_asks, start_small, goal_small, time_small, sweep_of, sweep_first, sweep_ends, sweep_late, sweep_next}
+use Rattle.passes.proofs.OnCourse.{records_on, SweptOn, forth_asks, start_small, goal_small, time_small, sweep_of, sweep_first, sweep_ends, sweep_late, sweep_next}
 use Rattle.passes.proofs.Course.forward_by.Goals as goal
 
 pub invariant_of-pass : goal.invariant_of-pass
 invariant_of-pass c =
-    let q = forth_asks c.args.self.now c.all-goals.ensures in record { passable = c.requires.passable; few_goals = q.0; goals_on = q.1 }
+    let q = forth_asks c.args.self.now c.all-goals.ensures in record { passable = c.requires.passable; on_grid = records_on c.args.self.now; few_goals = q.0; goals_on = q.1 }
 
 pub seed-a-requires : goal.seed-a-requires
 seed-a-requires c =
     let q = forth_asks c.args.self.now c.all-goals.ensures in
-    (omega arith, start_small c.args.self.now c.start.ensures.value c.pad-2.ensures, q.0, q.1)
+    (omega arith, start_small c.args.self.now c.start.ensures.value c.pad-2.ensures, q.0, q.1, records_on c.args.self.now)
 
 pub loop-t-init : goal.loop-t-init
 loop-t-init c = sweep_first c.args.self.now c.all-goals.ensures c.start.ensures.value c.pad-2.ensures c.seed-a.ensures

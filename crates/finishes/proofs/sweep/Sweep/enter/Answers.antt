@@ -10,7 +10,7 @@ pub loop-k-init : goal.loop-k-init
 loop-k-init c =
     let s = c.args.self.now in
     let layer = seeded_steps s.sheet.now.bytes.now s.sheet.now.accepted s.task s.pass s.serves c.pad-goal.result
-    (c.pad-goal.ensures ∙ ap (pad_of s.pass.chains.now.size.width) c.last_goal.ensures.value) _ c.seed-a.ensures in
+    (c.pad-goal.ensures ∙ ap (pad_of s.pass.size.width) c.last_goal.ensures.value) _ c.seed-a.ensures in
     (passing_first s.sheet.now.bytes.now s.sheet.now.accepted s.task s.pass s.serves _ c.args.entries.now c.requires.long c.requires.unknown layer, refl)
 
 pub returns-then-all_known : goal.returns-then-all_known

@@ -15,7 +15,7 @@ invariant_of-look c =
 
 pub from-requires : goal.from-requires
 from-requires c =
-    let u = c.args.self.now.course.now.chains.now.size in (
+    let u = c.args.self.now.course.now.size in (
       u.wide.0,
       omega (arith, u.wide.1),
       omega (arith, on_layer c.args.self.now c.args.t c.args.u c.args.k c.requires.on_time),
