@@ -1,15 +1,14 @@
 // Answers each table of the standard input: the count m, how many entries (two bytes), how many assignments to list at most, and
-// the entries, two bytes each. The lines have the cause, or the least assignment and the next ones in order.
+// the entries, two bytes each. The lines have the cause, or the least assignment and the next ones in order. The tables are read one by
+// one, at most 1000, up to the first that is cut off or has more than 169 entries.
 #![tactic(auto)]
 
 mod slots;
 
-ghost use Rattle.std.specs.Prelude.{◌<◌, OnSome, length};
-
 use std::io;
 use testing::{Spaced, Stored};
 
-// Kept, here and in the reader that follows: the form of collision_test's, by chance: each call has two numbers and a list of words.
+// Kept: the form of collision_test's, by chance: each call has two numbers and a list of words.
 #[derive(Drop)]
 struct Case<'a> {
     count: u8,
@@ -17,15 +16,13 @@ struct Case<'a> {
     table: &'a [u8],
 }
 
-// A case for which there is too little space is left out.
 fn main(rt: HostRuntime) -> io::Result<()> {
-    let mut buffer = [0u8; 65536];
+    let mut buffer = [0u8; 338];
     let mut space = [0u16; 169];
-    let mut input = Stored {
-        rest: input::read(&rt, &mut buffer)?,
-    };
-    // Kept: the cases up to the end of the input, which counts no index; a loop over `from_fn` would have to be proved to end.
-    while let Some(case) = next_case(&mut input) {
+    for _ in 0..1000u32 {
+        let Some(case) = next_case(&rt, &mut buffer)? else {
+            return Ok(());
+        };
         if let Some(table) = testing::read_words(case.table, &mut space) {
             report(&rt, case.count, table, case.most)?;
         }
@@ -33,15 +30,28 @@ fn main(rt: HostRuntime) -> io::Result<()> {
     Ok(())
 }
 
-// The next case; one that is cut off is left out.
-fn next_case<'a>(input: &mut Stored<'a>) -> Option<Case<'a>>
-    ensures { OnSome result (length input.new.rest.now < length input.old.rest.now) }
-{
-    let count = input.byte()?;
-    let size = usize::from(input.word()?);
-    let most = usize::from(input.byte()?);
-    let table = input.bytes(2 * size)?;
-    Some(Case { count, most, table })
+// The next case, its table in the buffer; none where it is cut off, or where the buffer is too short for it.
+fn next_case<'a>(rt: &impl Input, buffer: &'a mut [u8]) -> io::Result<Option<Case<'a>>> {
+    let mut head = [0u8; 4];
+    let mut head = Stored {
+        rest: input::read(rt, &mut head)?,
+    };
+    let (Some(count), Some(size), Some(most)) = (head.byte(), head.word(), head.byte()) else {
+        return Ok(None);
+    };
+    let size = 2 * usize::from(size);
+    let Some(table) = buffer.get_mut(..size) else {
+        return Ok(None);
+    };
+    let table = input::read(rt, table)?;
+    if table.len() < size {
+        return Ok(None);
+    }
+    Ok(Some(Case {
+        count,
+        most: usize::from(most),
+        table,
+    }))
 }
 
 // The count of an accepted table is at most 12.

@@ -59,11 +59,9 @@ fn take_first(slots: &mut [[Option<Slot>; 12]; 8]) -> Option<Slot> {
         .take()
 }
 
-// Lists the assignments after the first, up to 8 and up to `most` in all.
-pub fn list_next(rt: &impl Print, m: usize, table: &[u16], most: usize) -> io::Result<()>
-    requires { m ≤ 12 }
-{
-    if table.len() != m * m {
+// Lists the assignments after the first, up to 8 and up to `most` in all; of a table that is none, nothing.
+pub fn list_next(rt: &impl Print, m: usize, table: &[u16], most: usize) -> io::Result<()> {
+    if m < 1 || 12 < m || table.len() != m * m {
         return Ok(());
     }
     let t = tables::filled(m, table);

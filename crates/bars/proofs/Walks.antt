@@ -83,7 +83,7 @@ module _ (rs : List ℕ) (i : ℕ) where
   }
 
   -- one record more, whose link is h; the heads are as they were, or its own is it
-  linked_more : (k : ℕ) (heads links : List ℕ) (t h : ℕ) {after : List ℕ} → t ≡ record_word rs k 4 → t < 256 → k < length links → h ≡ get_or heads t 0
+  pub linked_more : (k : ℕ) (heads links : List ℕ) (t h : ℕ) {after : List ℕ} → t ≡ record_word rs k 4 → t < 256 → k < length links → h ≡ get_or heads t 0
       → length after ≡ length heads → get_or after t 0 ≡ cond (eqb (record_word rs k 1) i) (suc k) (get_or heads t 0)
       → ((s : ℕ) → (s ≡ t → ⊥) → get_or after s 0 ≡ get_or heads s 0)
       → Linked rs i k heads links → Linked rs i (k + 1) after (set links k h)

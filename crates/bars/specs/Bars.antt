@@ -78,10 +78,10 @@ abbrev pub move_slot : ℕ → Bool → Constraint → ℕ
 move_slot w back (Place a x s) = 5780
 move_slot w back (Move a x y s) = cond back (slot_of (w + 2) (pad_of w y) (pad_of w x)) (slot_of (w + 2) (pad_of w x) (pad_of w y))
 
--- the padded place that the constraint bars: past the layer for a move constraint
+-- the padded place that the constraint bars: the border's 0 of a move constraint
 abbrev pub place_slot : ℕ → Constraint → ℕ
 place_slot w (Place a x s) = pad_of w x
-place_slot w (Move a x y s) = 1156
+place_slot w (Move a x y s) = 0
 
 -- the slot x, where a list of n entries has it
 abbrev pub SlotIn : ℕ → ℕ → Option ℕ → Type 0

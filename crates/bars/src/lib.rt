@@ -170,14 +170,14 @@ impl Size {
         }
     }
 
-    // The padded place that the constraint bars.
-    fn place_slot(self, bar: Constraint) -> Option<usize>
+    // The padded place that the constraint bars: the border's 0 of a move constraint.
+    fn place_slot(self, bar: Constraint) -> usize
         requires { OnPadded self.width bar }
-        ensures { SlotIn 1156 (place_slot self.width bar) result }
+        ensures { (result ≡ place_slot self.width bar) × (result < 1156) }
     {
         match bar {
-            Constraint::Place { u, .. } => Some(self.pad(u)),
-            Constraint::Move { .. } => None,
+            Constraint::Place { u, .. } => self.pad(u),
+            Constraint::Move { .. } => 0,
         }
     }
 }
@@ -255,15 +255,35 @@ pub fn stay_from(records: &[u16], carrier: Carrier, g: usize) -> usize
         .unwrap_or(0)
 }
 
-// The constraints of one carrier. Kept, here and in the methods that follow: chains of numbers, in an array of heads
+// Chains the constraints of the carrier: for each time one more than the number of the last record, and in the lent words for each
+// record one more than that of the one before. Kept: an index, which is the record's number and its link; `chunks_exact` would leave the
+// links to be zipped and the last words to be cut off.
+pub fn chains_of(records: &[u16], carrier: Carrier, links: &mut [u32]) -> [u16; 256]
+    requires timely { Timely records.now }
+    requires few { count_in records.now ≤ 4096 }
+    requires room { count_in records.now ≤ length links.old }
+    ensures { Chained records.now carrier.0 result links.new }
+{
+    let mut heads = [0u16; 256];
+    for k in 0..records.len() / 5 {
+        let t = usize::from(records[5 * k + 4]);
+        links[k] = u32::from(heads[t]);
+        if usize::from(records[5 * k + 1]) == carrier.0 {
+            heads[t] = (k + 1) as u16;
+        }
+    }
+    heads
+}
+
+// The constraints of one carrier; heads and links may be any that are chained. Kept, here and in the methods that follow: chains of numbers, in an array of heads
 // and in words that the caller lends: no heap, and up to 4096 records of five words each. Kept: t < 256 of each method: a pass would have
 // to unpack such a type, count, and build it again at each step.
 #[derive(Drop)]
 pub struct Chains<'a> {
     pub records: &'a [u16],
     pub carrier: Carrier,
-    heads: [u16; 256],
-    links: &'a [u32],
+    pub heads: [u16; 256],
+    pub links: &'a [u32],
     pub ghost few: { count_in records.now ≤ 4096 },
     pub ghost chained: { Chained records.now carrier.0 heads links.now },
 }
@@ -271,22 +291,14 @@ pub struct Chains<'a> {
 impl<'a> Chains<'a> {
     ghost use Rattle.bars.specs.Rest.{rest_of};
 
-    // The chains of the carrier's constraints: the links stand in the lent words. Kept: an index, which is the record's number and its link;
-    // `chunks_exact` would leave the links to be zipped and the last words to be cut off.
+    // The chains of the carrier's constraints: the links stand in the lent words.
     pub fn new(records: &'a [u16], carrier: Carrier, links: &'a mut [u32]) -> Chains<'a>
         requires timely { Timely records.now }
         requires few { count_in records.now ≤ 4096 }
         requires room { count_in records.now ≤ length links.old }
         ensures { (result.records.now ≡ records.now) × (result.carrier ≡ carrier) }
     {
-        let mut heads = [0u16; 256];
-        for k in 0..records.len() / 5 {
-            let t = usize::from(records[5 * k + 4]);
-            links[k] = u32::from(heads[t]);
-            if usize::from(records[5 * k + 1]) == carrier.0 {
-                heads[t] = (k + 1) as u16;
-            }
-        }
+        let heads = chains_of(records, carrier, links);
         Chains {
             records,
             carrier,
@@ -349,9 +361,7 @@ impl<'a> Chains<'a> {
         ensures { Cleared (place_slot size.width) (ours_at self.now.records.now self.now.carrier.0 t) layer.old layer.new }
     {
         for bar in self.at(t) {
-            if let Some(x) = size.place_slot(bar) {
-                layer[x] = 0;
-            }
+            layer[size.place_slot(bar)] = 0;
         }
     }
 }

@@ -111,7 +111,7 @@ module _ (s : List ℕ) (j : Task) (mask : List ℕ) (g : Given s j mask) where
   abbrev K : ℕ
   K = length (goals_of d j)
 
-  few : (1 ≤ K) × (K ≤ 8)
+  pub few : (1 ≤ K) × (K ≤ 8)
   few = goals_range s g.accepted j.0 g.task_in
 
   -- what the code asks

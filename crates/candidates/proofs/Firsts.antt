@@ -59,7 +59,7 @@ module _ (m : ℕ) (small : m ≤ 12) (w u v task carrier : List ℕ) (S : Solve
   pub tasks_low : (i : ℕ) → i < m → task at i < 12
   tasks_low i li = omega (arith, S.matches.matched i li)
 
-  tasks_long : length task ≡ 12
+  pub tasks_long : length task ≡ 12
   tasks_long = S.sizes.2
 
   taken_at : (i : ℕ) → i < m → take m task at i ≡ task at i

@@ -14,7 +14,7 @@ ghost use Rattle.partition.specs.Parts.{candidate, slot_part};
 ghost use Rattle.tables.specs.Copies.{part_of};
 ghost use Rattle.candidates.specs.Candidates.{candidate_for};
 
-use deck::Carrier;
+use deck::{Carrier, Task};
 use hungarian::Pairs;
 use tables::{HEAVY, Part, entry, merged_weights, task_of, weigh};
 
@@ -32,6 +32,14 @@ pub struct PricedCandidate {
     pub columns: [u64; 12],
 }
 
+// The task of a carrier that has one.
+fn own_task(pairs: &Pairs, carrier: Carrier) -> Task
+    requires { (carrier.0 < 12) × (task_numbers pairs.now.tasks at carrier.0 < 12) }
+    ensures { (result.0 ≡ task_numbers pairs.now.tasks at carrier.0) × (result.0 < 12) }
+{
+    pairs.tasks[carrier.0].unwrap()
+}
+
 // The tasks of m carriers as a list of 12, 255 past m.
 // Kept: 255 is document 01's number in a task list from m on; and m beside the list, past whose part there may be no task.
 fn listed(m: usize, pairs: &Pairs) -> [u8; 12]
@@ -40,7 +48,7 @@ fn listed(m: usize, pairs: &Pairs) -> [u8; 12]
 {
     let mut tasks = [255u8; 12];
     for (i, number) in tasks[..m].iter_mut().enumerate() {
-        let task = pairs.tasks[i].unwrap();
+        let task = own_task(pairs, Carrier(i));
         *number = task.0 as u8;
     }
     tasks

@@ -209,7 +209,7 @@ module _ {s : List ℕ} {i : Carrier} {j : Task} {mask goals rs table : List ℕ
         lets_stand b e = rw (stands_is d i (constraints_of rs) (t + 1) v) e
 
         -- it is barred
-        barred_way : (b : Bool) → b ≡ (free_move i (constraints_of rs) t u v && free_place i (constraints_of rs) (t + 1) v) → b ≡ false → Closed
+        pub barred_way : (b : Bool) → b ≡ (free_move i (constraints_of rs) t u v && free_place i (constraints_of rs) (t + 1) v) → b ≡ false → Closed
         barred_way b e y h =
             let a = rw (← op.at) at (goes_asks x h).1 in
             subst T (sym (lets_stand b e) ∙ y)

@@ -13,15 +13,15 @@ use Rattle.hungarian.specs.Solving.{marks, nears, froms, way_at, column_at, mark
 
 -- ONE COLUMN
 module _ (c : Column) (total s i : ℕ) where
-  nearer_marked : c.marked ≡ true → nearer_of c total s i ≡ c.way
+  pub nearer_marked : c.marked ≡ true → nearer_of c total s i ≡ c.way
   unfolding nearer_of
   nearer_marked h = rw h refl
 
-  nearer_less : c.marked ≡ false → s < c.way.near - total → nearer_of c total s i ≡ way_at (total + s) i
+  pub nearer_less : c.marked ≡ false → s < c.way.near - total → nearer_of c total s i ≡ way_at (total + s) i
   unfolding nearer_of
   nearer_less h k = rw (h, lt-ltb s (c.way.near - total) k) refl
 
-  nearer_kept : c.marked ≡ false → c.way.near - total ≤ s → nearer_of c total s i ≡ c.way
+  pub nearer_kept : c.marked ≡ false → c.way.near - total ≤ s → nearer_of c total s i ≡ c.way
   unfolding nearer_of
   nearer_kept h k = rw (h, le-ltb s (c.way.near - total) k) refl
 

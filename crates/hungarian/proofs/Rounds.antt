@@ -166,7 +166,7 @@ module _ (m : ℕ) (w : List ℕ) (r : ℕ) (small : m ≤ 12) (low : r < m) (li
     later y ly h = ⊎_elim (λ z. omega (arith, z.0, G.late y ly h)) (λ z. omega (arith, z.0)) (column_moved m w u v columns total i near from near' from' R y ly h)
 
     -- a column outside the tree is there, and the nearest of these is found
-    next_column : (e.task.0 < m) × (marked columns e.task.0 ≡ false) × (near' at e.task.0 ≡ e.near)
+    pub next_column : (e.task.0 < m) × (marked columns e.task.0 ≡ false) × (near' at e.task.0 ≡ e.near)
     next_column =
         let o = some_outside m (cell w) r U Y (◌at◌ task) (◌at◌ carrier) M low rows (marked columns) (◌at◌ from) G.order G.n G.tree in
         ⊎_elim (λ q. absurd (omega (arith, q, C.least o.0 o.1 o.2, (reach o.0 o.1 o.2).3))) (λ q. q) C.found
@@ -206,10 +206,10 @@ module _ (m : ℕ) (w : List ℕ) (r : ℕ) (small : m ≤ 12) (low : r < m) (li
         }
 
     -- the prices where the tree stops at the new length
-    ways_early : (x : ℕ) → rows x ≡ true → way_to r task near' x ≤ e.near
+    pub ways_early : (x : ℕ) → rows x ≡ true → way_to r task near' x ≤ e.near
     ways_early x h = omega (arith, way_kept x h, way_early x h, farther)
 
-    columns_early : (y : ℕ) → y < m → marked columns y ≡ true → near' at y ≤ e.near
+    pub columns_early : (y : ℕ) → y < m → marked columns y ≡ true → near' at y ≤ e.near
     columns_early y ly h = omega (arith, (column_kept m w u v columns total i near from near' from' R y ly h).0, G.early y ly h, farther)
 
     in_raised : (x : ℕ) → rows x ≡ true → row_price m r u task columns near' e.near x ≡ U x + d
@@ -232,12 +232,12 @@ module _ (m : ℕ) (w : List ℕ) (r : ℕ) (small : m ≤ 12) (low : r < m) (li
     out_column_raised : (y : ℕ) → marked columns y ≡ false → column_price v columns near' e.near y ≡ Y y
     out_column_raised y h = omega (arith, out_column y h, no_gain (marked columns y) (near' at y) e.near h)
 
-    rows_in_range : (x : ℕ) → x < m → row_price m r u task columns near' e.near x < 2 ^ 64
+    pub rows_in_range : (x : ℕ) → x < m → row_price m r u task columns near' e.near x < 2 ^ 64
     rows_in_range x lx = ⊎_elim
         (λ h. omega (arith, in_raised x h, rows_fit m (cell w) r U Y (◌at◌ task) (◌at◌ carrier) M low rows (marked columns) (◌at◌ from') G.order G.n T' (from' at j) j d least_slack 9223372036854775807 light x lx h))
         (λ h. omega (arith, out_raised x h, out_price x h, (S.bounded 9223372036854775807 light x lx).0)) (cases_Bool (rows x))
 
-    columns_in_range : (y : ℕ) → y < m → column_price v columns near' e.near y < 2 ^ 64
+    pub columns_in_range : (y : ℕ) → y < m → column_price v columns near' e.near y < 2 ^ 64
     columns_in_range y ly = ⊎_elim
         (λ h. omega (arith, in_column_raised y ly h, columns_fit m (cell w) r U Y (◌at◌ task) (◌at◌ carrier) M low rows (marked columns) (◌at◌ from') G.order G.n T' (from' at j) j d least_slack 9223372036854775807 light y ly h))
         (λ h. omega (arith, out_column_raised y h, out_column y h, (S.bounded 9223372036854775807 light y ly).1)) (cases_Bool (marked columns y))
@@ -246,11 +246,11 @@ module _ (m : ℕ) (w : List ℕ) (r : ℕ) (small : m ≤ 12) (low : r < m) (li
     in_columns = omega (arith, next_column.0, G.sizes.2)
 
     -- there is room for one column more
-    fewer : suc (unmarked (set columns j true)) ≡ unmarked columns
+    pub fewer : suc (unmarked (set columns j true)) ≡ unmarked columns
     fewer = unmarked_set columns j in_columns next_column.1
 
     -- COLUMN j IS FREE: the round's prices, and the way back from there
-    grown_reaches : m ≤ carrier at j → (u' v' : List ℕ) → ((x : ℕ) → x < m → u' at x ≡ row_price m r u task columns near' e.near x) → length u' ≡ 12
+    pub grown_reaches : m ≤ carrier at j → (u' v' : List ℕ) → ((x : ℕ) → x < m → u' at x ≡ row_price m r u task columns near' e.near x) → length u' ≡ 12
         → ((y : ℕ) → y < m → v' at y ≡ column_price v columns near' e.near y) → length v' ≡ 12 → Reaches m w r u' v' from' task carrier j
     grown_reaches l u' v' P su Q sv = record {
       way = record {
@@ -377,7 +377,7 @@ module _ (m : ℕ) (w : List ℕ) (r : ℕ) (small : m ≤ 12) (low : r < m) (li
           let n : y ≢ j = λ q. false≢true (sym h ∙ ap (marked columns') q ∙ marked_j) in
           (n, sym (marked_other y n) ∙ h)
 
-      grown_joins : Grown m w r u v task carrier columns' near' from' e.near (carrier at j)
+      pub grown_joins : Grown m w r u v task carrier columns' near' from' e.near (carrier at j)
       grown_joins = record {
         order = put_at G.order j G.n;
         n = suc G.n;

@@ -55,7 +55,7 @@ fn bump(b: u8, k: usize) -> u8
 }
 
 // Raises the layer at the goals, in their order, so that equal goals in succession count at once.
-fn raise(layer: &mut Layer, goals: &[usize])
+pub fn raise(layer: &mut Layer, goals: &[usize])
     requires { (length goals.now ≤ 8) × Indexes goals.now (length goals.now) }
     ensures { Raised goals.now (length goals.now) layer.old layer.new }
 {
@@ -72,16 +72,24 @@ fn four(layer: &Layer, p: usize) -> u32
     u32::from_le_bytes([layer[p], layer[p + 1], layer[p + 2], layer[p + 3]])
 }
 
-// Keeps the rows of the layer of time t in their words, four bytes to a word. Kept: words at a product: they are lent, in fixed memory.
+// Keeps the bytes of a layer from `from` on in words from `at` on, four bytes to a word. Kept: words at a product: they are lent, in
+// fixed memory.
+pub fn keep_from(layer: &Layer, from: usize, many: usize, words: &mut [u32], at: usize)
+    requires { (from + 4 * many ≤ 1156) × (at + many ≤ length words.old) }
+    ensures { Kept layer.now from at many words.old words.new }
+{
+    for k in 0..many {
+        words[at + k] = four(layer, from + 4 * k);
+    }
+}
+
+// Keeps the rows of the layer of time t in their words.
 pub fn keep(layer: &Layer, size: Size, words: &mut [u32], t: usize)
     requires { t * words_for size.width size.height + words_for size.width size.height ≤ length words.old }
     ensures { Kept layer.now (row_of size.width) (t * words_for size.width size.height) (words_for size.width size.height) words.old words.new }
 {
     let many = size.words();
-    let at = t * many;
-    for k in 0..many {
-        words[at + k] = four(layer, size.row() + 4 * k);
-    }
+    keep_from(layer, size.row(), many, words, t * many);
 }
 
 // The byte k of a word. By a shift: the trace asks for bytes that a branch on k could not foresee.
@@ -109,12 +117,20 @@ fn farthest(bytes: &[u8]) -> u8
     bytes.iter().fold(0, |most, b| most.max((*b).min(255 - *b)))
 }
 
-// No place is a lane.
+// No place from the first on, and before the end, is a lane.
+pub fn plain(mask: &Layer, first: usize, end: usize) -> bool
+    requires { (first ≤ end) × (end ≤ 1156) }
+    ensures { result ≡ true → Plain mask.now first end }
+{
+    let worst = farthest(&mask[first..end]);
+    worst == 0
+}
+
+// No place of the grid is a lane.
 pub fn is_plain(mask: &Layer, size: Size) -> bool
     ensures { result ≡ true → Plain mask.now (row_of size.width) (end_of size.width size.height) }
 {
-    let worst = farthest(&mask[size.row()..size.end()]);
-    worst == 0
+    plain(mask, size.row(), size.end())
 }
 
 // The byte of a place where the byte m has the bit of the way, and else 0. Kept, here and in the functions that follow: the way is the
@@ -145,25 +161,39 @@ fn fill_way(
 }
 
 // The bytes of the way. Kept: the direction is a field of a pass, so that one proof serves both directions.
-fn way_doors(mask: &Layer, size: Size, direction: Direction, way: Way, doors: &mut Ways)
-    ensures { Filled (1156 * number_of way + row_of size.width) (1156 * number_of way + end_of size.width size.height) (λ q. door_at mask.now (row_of size.width) (is_back direction) (number_of way) (q - 1156 * number_of way)) doors.old doors.new }
+fn way_doors(mask: &Layer, row: usize, end: usize, direction: Direction, way: Way, doors: &mut Ways)
+    requires { (1 ≤ row) × (row ≤ 34) × (row ≤ end) × (end ≤ 1122) }
+    ensures { Filled (1156 * number_of way + row) (1156 * number_of way + end) (λ q. door_at mask.now row (is_back direction) (number_of way) (q - 1156 * number_of way)) doors.old doors.new }
 {
-    let row = size.row();
     let at = CELLS * way as usize;
     match direction {
-        Direction::Forward => fill_way(mask, row, size.end(), way.turn(row), way.back(), at, doors),
-        Direction::Backward => fill_way(mask, row, size.end(), row, way, at, doors),
+        Direction::Forward => fill_way(mask, row, end, way.turn(row), way.back(), at, doors),
+        Direction::Backward => fill_way(mask, row, end, row, way, at, doors),
     }
 }
 
-// Fills in, for each of the five ways, the bytes by which labels pass to the places, forward or backward, where some places are lanes.
-// In place, since a copy would cost a short path a measurable part of its time.
+// Fills in, for each of the five ways, the bytes by which labels pass to the places from the row on and before the end, forward or
+// backward, where some places are lanes. In place, since a copy would cost a short path a measurable part of its time.
+pub fn fill_doors_between(
+    mask: &Layer,
+    row: usize,
+    end: usize,
+    direction: Direction,
+    doors: &mut Ways,
+)
+    requires { (1 ≤ row) × (row ≤ 34) × (row ≤ end) × (end ≤ 1122) }
+    ensures { DoorsTo 5 mask.now row end (is_back direction) doors.new }
+{
+    for way in Way::ALL {
+        way_doors(mask, row, end, direction, way, doors);
+    }
+}
+
+// The same of the places of the grid.
 pub fn fill_doors(mask: &Layer, size: Size, direction: Direction, doors: &mut Ways)
     ensures { DoorsTo 5 mask.now (row_of size.width) (end_of size.width size.height) (is_back direction) doors.new }
 {
-    for way in Way::ALL {
-        way_doors(mask, size, direction, way, doors);
-    }
+    fill_doors_between(mask, size.row(), size.end(), direction, doors);
 }
 
 // The bytes of the five ways where there are no doors: from above, left, the place itself, right, below. Kept: no `chunks_exact_mut`,

@@ -24,12 +24,12 @@ cut_later zero k (x ∷ a) l h g = refl
 cut_later (suc n) k (x ∷ a) l h g = ap (λ (t : List ℕ). x ∷ t) (cut_later n k a l (omega arith) (omega arith))
 
 -- the place after the bytes is not before their place
-not_before : (b : List ℕ) (at : ℕ) (l c : List ℕ) (r : ℕ) → at ≤ length b → Wrote b at l c r → at ≤ r
+pub not_before : (b : List ℕ) (at : ℕ) (l c : List ℕ) (r : ℕ) → at ≤ length b → Wrote b at l c r → at ≤ r
 not_before b at l c r h w =
     omega (arith, w.inside, w.same, simp (length-take, length-append) at (ap length w.held))
 
 -- nothing
-wrote_none : (b : List ℕ) (at : ℕ) → at ≤ length b → Wrote b at [] b at
+pub wrote_none : (b : List ℕ) (at : ℕ) → at ≤ length b → Wrote b at [] b at
 wrote_none b at h =
     record {
       same = refl;
@@ -39,7 +39,7 @@ wrote_none b at h =
     }
 
 -- one text after another
-wrote_then : {b : List ℕ} {at : ℕ} {l c : List ℕ} {r : ℕ} {k d : List ℕ} {e : ℕ} → at ≤ length b → Wrote b at l c r → Wrote c r k d e → Wrote b at (l ++ k) d e
+pub wrote_then : {b : List ℕ} {at : ℕ} {l c : List ℕ} {r : ℕ} {k d : List ℕ} {e : ℕ} → at ≤ length b → Wrote b at l c r → Wrote c r k d e → Wrote b at (l ++ k) d e
 wrote_then {b} {at} {l} {c} {r} {k} {d} {e} h v w =
     let le : r ≤ e = not_before c r k d e (omega (arith, v.inside, v.same)) w in
     let s : r + (e - r) ≡ e = omega arith in

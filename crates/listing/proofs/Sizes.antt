@@ -20,7 +20,7 @@ use Rattle.listing.proofs.Decimals.{decimal_is}
 
 -- a number below 10 ^ k has at most k digits
 -- Kept: `decimal` is document 01's here; std's lemma speaks of std's, and `decimal_is` leads from one to the other.
-decimal_size : (k n : ℕ) → 0 < k → n < 10 ^ k → n < 2 ^ 64 → length (decimal n) ≤ k
+pub decimal_size : (k n : ℕ) → 0 < k → n < 10 ^ k → n < 2 ^ 64 → length (decimal n) ≤ k
 decimal_size k n z h f = rw (← decimal_is n f) (length-decimal-le k n z h f)
 
 -- every word has at most five digits, and what is read past the end is 0
@@ -79,7 +79,7 @@ module _ (s out : List ℕ) (p : Words out) where
           (line_size (read s) i (get_or tasks i 0) (take n (drop (i * n) out)) (omega (arith, most_carriers s ok)) (t i) long (take_words n (drop (i * n) out) (drop_words (i * n) out p)))
 
   -- THE SIZE
-  listing_size : (a : Result SearchAnswer Cause) → Listable s a → Fits a → length (listing_for (read s) a out) ≤ 20480
+  pub listing_size : (a : Result SearchAnswer Cause) → Listable s a → Fits a → length (listing_for (read s) a out) ≤ 20480
   unfolding listing_for text text_from
   listing_size (Ok (Plan tasks f n b)) ok (x, y, t) = simp length-append (omega (arith, number_size f x, number_size n y, lines_size tasks ok t))
   listing_size (Ok (NoPlan n)) ok x = simp length-append (omega (arith, number_size n x))
@@ -87,7 +87,7 @@ module _ (s out : List ℕ) (p : Words out) where
   listing_size (Err c) ok x = simp length-append (omega (arith, number_size (number c) x))
 
   -- where it is listable at all, it is what is listed
-  listed_is : (a : Result SearchAnswer Cause) → Listable s a → listed s a out ≡ listing_for (read s) a out
+  pub listed_is : (a : Result SearchAnswer Cause) → Listable s a → listed s a out ≡ listing_for (read s) a out
   unfolding listed
   listed_is (Ok (Plan tasks f n b)) ok = rw ok refl
   listed_is (Ok (NoPlan n)) ok = refl

@@ -1,8 +1,13 @@
 // A lent buffer that is written from its start on.
-ghost use Rattle.std.specs.Prelude.{◌≡◌, ◌++◌, ◌≤◌, length};
+ghost use Rattle.std.specs.Prelude.{◌≡◌, ◌+◌, ◌%◌, ◌++◌, ◌≤◌, length};
 ghost use Rattle.deck.specs.Listing.{decimal, spaced};
 
-use itoa::Buffer;
+// The last decimal digit of n.
+fn digit(n: usize) -> u8
+    ensures { result ≡ 48 + n % 10 }
+{
+    b'0' + (n % 10) as u8
+}
 
 // What does not fit is cut off.
 // Kept: the text is not written by `write!`, whose clauses say what is written only where its result is Ok, and never that it is.
@@ -32,11 +37,16 @@ impl<'a> Text<'a> {
         self.written = end;
     }
 
-    // n in decimal.
+    // n in decimal, the most significant digit first. Kept: no crate writes the digits, since its text would be one thing more to be believed.
     pub(crate) fn number(&mut self, n: usize)
         ensures { Appends self.old (decimal n) self.new }
     {
-        self.push(Buffer::new().format(n).as_bytes());
+        if n < 10 {
+            self.push(&[digit(n)]);
+            return;
+        }
+        self.number(n / 10);
+        self.push(&[digit(n)]);
     }
 
     // A number with the text before it.

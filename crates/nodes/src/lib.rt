@@ -186,8 +186,41 @@ pub fn open_root(work: &mut [u32], limit: usize, made: usize)
     open_node(work, limit, made);
 }
 
-// Makes the next node: the child of node n by one more constraint, with a new path of the carrier that it binds. Kept: `last` beside
-// the path: the packed path is stated by it.
+// What makes a child: a constraint, and the carrier whose path is new.
+#[derive(Clone, Copy, Debug, PartialEq, Eq)]
+pub struct Child {
+    pub carrier: Carrier,
+    pub constraint: Constraint,
+}
+
+// Makes the next node: the child of node n by one more constraint, with a new path of the carrier. Kept: `last` beside the path: the
+// packed path is stated by it.
+pub fn make_child_of(
+    work: &mut [u32],
+    limit: usize,
+    made: usize,
+    n: usize,
+    child: Child,
+    finish: usize,
+    path: &[u16],
+    w: usize,
+    last: usize,
+)
+    requires n_lt_made { (n < made) × (made < limit) × (child.carrier.0 < 12) × Small child.constraint × HasNodes limit work.old }
+    requires finish_bound { (finish < 4294967296) × (length path.now ≡ last + 1) × (w ≤ 32) }
+    ensures { (d : Sheet) → d.width ≡ w → d.horizon ≡ last → ChildOf d limit work.old made n child.carrier.0 child.constraint finish path.now → Added d limit work.old work.new made (child_node (problem d) (node_at d work.old n) child.constraint path.now) }
+{
+    let origin = Origin {
+        parent: n,
+        constraint: child.constraint,
+    };
+    records::copy_record(work, n, made);
+    records::set_origin(work, made, origin);
+    records::put_path(work, made, child.carrier, finish, path, w, last);
+    open_node(work, limit, made);
+}
+
+// The same of the carrier that the constraint binds.
 pub fn make_child(
     work: &mut [u32],
     limit: usize,
@@ -203,12 +236,9 @@ pub fn make_child(
     requires finish_bound { (finish < 4294967296) × (length path.now ≡ last + 1) × (w ≤ 32) }
     ensures { (d : Sheet) → d.width ≡ w → d.horizon ≡ last → ChildOf d limit work.old made n (bound_by constraint) constraint finish path.now → Added d limit work.old work.new made (child_node (problem d) (node_at d work.old n) constraint path.now) }
 {
-    let origin = Origin {
-        parent: n,
+    let child = Child {
+        carrier: bound_by(constraint),
         constraint,
     };
-    records::copy_record(work, n, made);
-    records::set_origin(work, made, origin);
-    records::put_path(work, made, bound_by(constraint), finish, path, w, last);
-    open_node(work, limit, made);
+    make_child_of(work, limit, made, n, child, finish, path, w, last);
 }

@@ -52,7 +52,7 @@ unfolding shift
 shift_more x j y e = rw (e, add-one j)
 
 -- the steps of word k are those of the path from 13 k on
-place_word : (w : ℕ) (words : List ℕ) (start k j : ℕ) → j ≤ 13 → place_from w (place_in w words start (13 * k)) (get_or words k 0) j ≡ place_in w words start (13 * k + j)
+pub place_word : (w : ℕ) (words : List ℕ) (start k j : ℕ) → j ≤ 13 → place_from w (place_in w words start (13 * k)) (get_or words k 0) j ≡ place_in w words start (13 * k + j)
 unfolding place_from place_in step_in
 place_word w words start k zero h = rw add-zero
 place_word w words start k (suc j) h =
@@ -95,7 +95,7 @@ unfolding shift
 shift_zero zero = refl
 shift_zero (suc j) = rw (shift_zero j)
 
-place_waits : (w p j : ℕ) → p < 65536 → place_from w p 0 j ≡ p
+pub place_waits : (w p j : ℕ) → p < 65536 → place_from w p 0 j ≡ p
 unfolding place_from moved_of
 place_waits w p zero h = refl
 place_waits w p (suc j) h = rw (place_waits w p j h, shift_zero j, add-zero) (mod-eq_of_lt h)

@@ -1,5 +1,5 @@
 -- The layers of the backward pass in the workspace: each has room, and writing one leaves the others. Assumes nothing.
-use Rattle.std.proofs.Common.{ℕ, suc, ◌+◌, ◌-◌, ◌*◌, ◌≤◌, ◌<◌, ◌≡◌, ap, ap₂, ◌∙◌, subst, List, length, get_or, ltb, arith, ⊎_elim, eq-or-lt_of_le, mul-le-mul, mul-le-mul_right, suc-mul}
+use Rattle.std.proofs.Common.{ℕ, suc, ◌+◌, ◌-◌, ◌*◌, ◌≤◌, ◌<◌, ◌≡◌, ap, ap₂, ◌∙◌, subst, List, length, get_or, ltb, arith, ⊎_elim, le_trans, eq-or-lt_of_le, mul-le-mul, mul-le-mul_right, suc-mul}
 use Rattle.sheet.proofs.Accepted.{start_on_grid}
 use Rattle.deck.specs.Sheet.{read, area, start_of, goals_of}
 use Rattle.deck.specs.Calls.{constraints_of}
@@ -11,11 +11,21 @@ use Rattle.bars.specs.Padded.{pad_of, Holds}
 use Rattle.layers.specs.Packed.{Kept, words_for, Laid}
 use Rattle.layers.proofs.Keeping.{kept_laid, laid_stays, words_fit}
 use Rattle.passes.specs.Ready.{Ready, Sized, layer_at, Backed}
-use Rattle.passes.proofs.Given.{wide_one, all_counted}
+use Rattle.passes.proofs.Given.{wide_one, wide_most, high_most, horizon_most, all_counted}
 
 module _ (s : List ℕ) (i : Carrier) (j : Task) (mask rs : List ℕ) (r : Ready s i j mask rs) where
   abbrev many : ℕ
   many = words_for (read s).width (read s).height
+
+  -- how much that is at most
+  pub rows_small : ((read s).width + 2) * (read s).height ≤ 1088
+  rows_small = mul-le-mul {n₂ = 34} {m₂ = 32} (omega (arith, wide_most r)) (high_most r)
+
+  pub words_small : many ≤ 272
+  words_small = omega (arith, rows_small)
+
+  pub times_words : (t : ℕ) → t ≤ (read s).horizon → t * many ≤ 69360
+  times_words t h = le_trans (mul-le-mul {n₂ = 255} {m₂ = 272} (omega (arith, horizon_most r)) words_small) (omega arith)
 
   -- the layer of each time has room
   pub layer_in : (t : ℕ) → t ≤ (read s).horizon → layer_at s t + words_for (read s).width (read s).height ≤ suc (read s).horizon * area (read s)
@@ -24,6 +34,13 @@ module _ (s : List ℕ) (i : Carrier) (j : Task) (mask rs : List ℕ) (r : Ready
       omega (arith, suc-mul t many)
 
 module _ (s : List ℕ) (i : Carrier) (j : Task) (mask rs : List ℕ) (r : Ready s i j mask rs) (w h : ℕ) (sized : Sized s w h) where
+  -- the same in the numbers of the code
+  pub code_rows : (w + 2) * h ≤ 1088
+  code_rows = rw (sized.0, sized.1) (rows_small s i j mask rs r)
+
+  pub code_times : (t : ℕ) → t ≤ (read s).horizon → t * words_for w h ≤ 69360
+  code_times t l = rw (sized.0, sized.1) (times_words s i j mask rs r t l)
+
   pub layer_room : (t : ℕ) (words : List ℕ) → t ≤ (read s).horizon → suc (read s).horizon * area (read s) ≤ length words → t * words_for w h + words_for w h ≤ length words
   layer_room t words l room = rw (sized.0, sized.1) (omega (arith, layer_in s i j mask rs r t l))
 

@@ -9,9 +9,9 @@ use sheet::AcceptedSheet;
 // At most eight padded places. Kept: an array with a count: no heap, and a task has one to eight goals.
 #[derive(Clone, Copy, Debug, PartialEq, Eq)]
 pub struct Goals {
-    places: [usize; 8],
-    count: usize,
-    ghost few: { count ≤ 8 },
+    pub places: [usize; 8],
+    pub count: usize,
+    pub ghost few: { count ≤ 8 },
 }
 
 impl Goals {

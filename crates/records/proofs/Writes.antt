@@ -62,7 +62,7 @@ path_wrote work ys n i finish packed h b s q =
     (wrote w packed n 7 (20 * i) 20 (512 * n + (200 + 20 * i)) (omega arith) (omega arith) s (omega arith) refl))
 
 -- the words of slot j as they were lent
-slot_lent : (work : List ℕ) (n j : ℕ) → j < 12 → part (512 * n + (32 + 14 * j)) (512 * n + (32 + 14 * j) + 14 - (512 * n + (32 + 14 * j))) work ≡ slot_in (fields_at work n) j
+pub slot_lent : (work : List ℕ) (n j : ℕ) → j < 12 → part (512 * n + (32 + 14 * j)) (512 * n + (32 + 14 * j) + 14 - (512 * n + (32 + 14 * j))) work ≡ slot_in (fields_at work n) j
 unfolding fields_at
 slot_lent work n j b =
     part_lent (512 * n + (32 + 14 * j)) 14 work

@@ -6,6 +6,7 @@ use Rattle.deck.specs.declared.Constraint.{Constraint}
 use Rattle.deck.specs.declared.Constraint.TheVariants.{Place, Move}
 use Rattle.candidates.specs.declared.Candidate.{Candidate}
 use Rattle.records.specs.Cut.{part, put, cut}
+use Rattle.records.specs.declared.NodeHead.{NodeHead}
 use Rattle.records.specs.declared.Origin.{Origin}
 
 -- 0 the link: 0 for a root, else parent + 1; 1 to 5 the constraint; 6 to 17 the tasks; 18 to 29 the finishes; 30 of a root: the row
@@ -52,6 +53,9 @@ Small (Move a u v t) = (a.0 < 65536) × (u < 65536) × (v < 65536) × (t < 65536
 -- the node's own constraint; of a root it has no meaning
 abbrev pub own_in : List (List ℕ) → Constraint
 own_in fs = constraint_in (get_or fs 1 [])
+
+abbrev pub head_in : List (List ℕ) → NodeHead
+head_in fs = record { link = link_in fs; constraint = own_in fs }
 
 -- a root, of link 0, has no parent
 abbrev pub origin_of : ℕ → Constraint → Option Origin

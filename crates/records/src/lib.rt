@@ -11,7 +11,7 @@ ghost use Rattle.deck.specs.Lists.{sum};
 ghost use Rattle.deck.specs.Sheet.{task};
 ghost use Rattle.pack.specs.Pack.{pack_of};
 ghost use Rattle.records.specs.Cut.{part};
-ghost use Rattle.records.specs.Record.{fields, fields_at, HasRecord, HasNodes, root_in, constraint_in, origin_in, tasks_in, finishes_in, row_in, closed_in, kept_at, slot_at, slot_in, tournament_in, packed_in, bytes, words_of, Small, with_path, with_slot, slot_words, root_fields, closed_key, with_key, Wrote};
+ghost use Rattle.records.specs.Record.{fields, fields_at, HasRecord, HasNodes, root_in, constraint_in, head_in, origin_in, tasks_in, finishes_in, row_in, closed_in, kept_at, slot_at, slot_in, tournament_in, packed_in, bytes, words_of, Small, with_path, with_slot, slot_words, root_fields, closed_key, with_key, Wrote};
 
 use candidates::Candidate;
 use deck::{Carrier, Constraint, Task};
@@ -43,6 +43,14 @@ const PATH_SIZE: usize = 20;
 
 // The key of a closed node; no cost is as much.
 pub const CLOSED_KEY: u32 = 65535;
+
+// What a record says of where its node comes from: its link, 0 for a root and else its parent's number and one, and its own
+// constraint, which of a root has no meaning.
+#[derive(Clone, Copy, Debug, PartialEq, Eq)]
+pub struct NodeHead {
+    pub link: usize,
+    pub constraint: Constraint,
+}
 
 // Where a child comes from: its parent's number, and its own constraint.
 #[derive(Clone, Copy, Debug, PartialEq, Eq)]
@@ -145,14 +153,25 @@ impl<'a> Record<'a> {
         self.words[0] == 0
     }
 
+    // Of a root too.
+    pub fn head(&self) -> NodeHead
+        ensures { result ≡ head_in self.now }
+    {
+        NodeHead {
+            link: self.words[0] as usize,
+            constraint: constraint_of(&self.words[CONSTRAINT..CONSTRAINT + 5]),
+        }
+    }
+
     // A root has none.
     pub fn origin(&self) -> Option<Origin>
         ensures { result ≡ origin_in self.now }
     {
-        let parent = (self.words[0] as usize).checked_sub(1)?;
+        let head = self.head();
+        let parent = head.link.checked_sub(1)?;
         Some(Origin {
             parent,
-            constraint: constraint_of(&self.words[CONSTRAINT..CONSTRAINT + 5]),
+            constraint: head.constraint,
         })
     }
 
@@ -250,15 +269,27 @@ pub fn keys(work: &[u32], limit: usize, from: usize, until: usize) -> &[u32]
 
 // WRITING
 
+// Writes the link and the constraint of record n.
+pub fn set_head(work: &mut [u32], n: usize, head: NodeHead)
+    requires { HasRecord work.old n × (head.link < 4294967296) × Small head.constraint }
+    ensures { Wrote work.old work.new n (set (set (fields_at work.old n) 0 (head.link ∷ [])) 1 (words_of head.constraint)) }
+{
+    let at = SIZE * n;
+    let from = at + CONSTRAINT;
+    work[at] = head.link as u32;
+    work[from..from + 5].copy_from_slice(&constraint_words(head.constraint));
+}
+
 // Writes where node n comes from.
 pub fn set_origin(work: &mut [u32], n: usize, origin: Origin)
     requires { HasRecord work.old n × (origin.parent + 1 < 4294967296) × Small origin.constraint }
     ensures { Wrote work.old work.new n (set (set (fields_at work.old n) 0 ((origin.parent + 1) ∷ [])) 1 (words_of origin.constraint)) }
 {
-    let at = SIZE * n;
-    let from = at + CONSTRAINT;
-    work[at] = (origin.parent + 1) as u32;
-    work[from..from + 5].copy_from_slice(&constraint_words(origin.constraint));
+    let head = NodeHead {
+        link: origin.parent + 1,
+        constraint: origin.constraint,
+    };
+    set_head(work, n, head);
 }
 
 pub fn set_tournament(work: &mut [u32], n: usize, v: usize)

@@ -7,7 +7,7 @@ mod accepted_sheet;
 
 ghost use Rattle.std.specs.Prelude.{◌≡◌, ◌<◌, ◌≤◌, None, length, get_or};
 ghost use Rattle.deck.specs.Causes.{answer_unless};
-ghost use Rattle.deck.specs.Sheet.{count_of, part, grid_stretch, read, area, grid_byte, start_of, goals_of, last_goal, most_goals, cause, sheet_cause};
+ghost use Rattle.deck.specs.Sheet.{count_of, part, grid_stretch, read, area, free, grid_byte, start_of, goals_of, last_goal, most_goals, cause, sheet_cause};
 ghost use Rattle.deck.specs.Calls.{workspace_for, workspace_of, reading_of, read_call, goals_call};
 ghost use Rattle.sheet_parts.specs.Part.{BeginsAt};
 
@@ -15,11 +15,15 @@ use deck::{Carrier, Cause, MOST_PAIRS, Reading, Stretch, Task};
 use sheet_parts::{GRID, STARTS};
 
 // The header: w, h, m, H and N; and how many places the grid has.
+pub use accepted_sheet::AcceptedSheet;
 pub use sheet_parts::{area, count, height, horizon, limit, width};
 
-// v is a place of the grid that is not blocked.
-pub use accepted_sheet::AcceptedSheet;
-pub use sheet_parts::is_free;
+// v is a place of the grid that is not blocked: its byte is 0, or 2 to 5, with which only leaving it is limited.
+pub fn is_free(s: &[u8], v: usize) -> bool
+    ensures { result ≡ free (read s.now) v }
+{
+    sheet_parts::is_free(s, v)
+}
 
 // The first cause that lies in the sheet itself, 1 to 7, or that it is accepted. A sheet of no bytes, the dark house, is.
 pub fn check(s: &[u8]) -> Result<(), Cause>

@@ -1,5 +1,5 @@
 -- Arrays of 144 numbers, twelve to a row, filled row by row; the tables of which they are working copies. Assumes nothing.
-use Rattle.std.proofs.Common.{ℕ, ◌+◌, ◌*◌, ◌≤◌, ◌<◌, ◌≡◌, sym, ap, ◌∙◌, ⊎_elim, ◌≢◌, List, eq-or-lt_of_le, le_of_suc-le-suc, not-suc-le-zero, add-one, arith, length, set, length-set, Some, slice_get}
+use Rattle.std.proofs.Common.{ℕ, ◌+◌, ◌*◌, ◌≤◌, ◌<◌, ◌≡◌, sym, ap, ◌∙◌, ⊎_elim, ◌≢◌, List, eq-or-lt_of_le, le_of_suc-le-suc, not-suc-le-zero, add-one, arith, length, set, length-set, Some, slice_get, mul-le-mul_right, suc-mul}
 use Rattle.std.proofs.lemmas.Grind.{common_steps}
 use Rattle.std.proofs.lemmas.Option.{gets}
 use Rattle.deck.specs.Assignments.{entry_at}
@@ -59,3 +59,10 @@ pub copied_part : (m : ℕ) (table t : List ℕ) (q : Part) → m ≤ 12 → ((i
 copied_part m table t q small h =
     square_same m (cell t) (λ i j. part_entry q i j (entry_at m (copied m table) i j))
     (λ i j li lj. h i j li lj ∙ ap (part_entry q i j) (sym (square_at m (cell table) i j li lj)))
+
+-- an entry of a table of m × m
+pub index_low : (m i j : ℕ) → i < m → j < m → i * m + j < m * m
+index_low m i j li lj = omega (arith, mul-le-mul_right m li, suc-mul i m)
+
+pub square_low : (m : ℕ) → m ≤ 12 → m * m ≤ 144
+square_low m h = omega (arith, mul-le-mul_right m h)

@@ -1,11 +1,11 @@
 // What the test programs share: the values of a stored input one after the other, and lines of numbers.
 #![tactic(auto)]
 
-ghost use Rattle.std.specs.Prelude.{◌≡◌, ◌≢◌, ◌↔◌, [], ℕ, ◌-◌, ◌/◌, ◌≤◌, ◌<◌, ◌∷◌, ◌++◌, IfSome, get_or, length, take};
+ghost use Rattle.std.specs.Prelude.{◌≡◌, ◌≢◌, ◌↔◌, [], ℕ, ◌+◌, ◌-◌, ◌*◌, ◌/◌, ◌≤◌, ◌<◌, ◌∷◌, ◌++◌, IfSome, get_or, length, take};
 ghost use Rattle.std.specs.Int.{from_le_bytes, w16, w32};
 
-use std::fmt;
 use std::fmt::Display;
+use std::{fmt, io};
 
 // A stored input: what is left of it.
 #[derive(Drop)]
@@ -59,6 +59,32 @@ impl<'a> Stored<'a> {
     }
 }
 
+// The byte k, 0 past the end. Kept: the form of that in `sheet_parts`, on which the input of a test is not to rest.
+fn byte_at(bytes: &[u8], k: usize) -> usize
+    ensures value { result ≡ get_or bytes.now k 0 }
+    ensures upper_bound { result < 256 }
+{
+    bytes.get(k).map_or(0, |byte| usize::from(*byte))
+}
+
+// The two-byte value at k, low byte first; bytes past the end are 0.
+pub fn number_at(bytes: &[u8], k: usize) -> usize
+    ensures value { result ≡ get_or bytes.now k 0 + 256 * get_or bytes.now (k + 1) 0 }
+    ensures upper_bound { result < 65536 }
+{
+    if bytes.len() <= k {
+        return 0;
+    }
+    byte_at(bytes, k) + 256 * byte_at(bytes, k + 1)
+}
+
+// The first 4096 two-byte values, as `number_at` reads them. The length is said so that a caller can lend a part of the array.
+pub fn words(bytes: &[u8]) -> [u16; 4096]
+    ensures { 4096 ≡ length result }
+{
+    std::array::from_fn(|k| number_at(bytes, 2 * k) as u16)
+}
+
 // The two-byte values of the bytes, written to the start of `space`; none where there are more than fit.
 pub fn read_words<'a>(bytes: &[u8], space: &'a mut [u16]) -> Option<&'a [u16]>
     ensures { IfSome result (λ words. length words.now ≡ length bytes.now / 2) }
@@ -90,6 +116,14 @@ impl<T: Display> Display for Spaced<'_, T> {
             write!(f, " {number}")?;
         }
         Ok(())
+    }
+}
+
+// One line of numbers.
+pub fn print_line(rt: &impl Print, numbers: &[usize]) -> io::Result<()> {
+    match numbers.split_first() {
+        Some((first, others)) => println!(rt; "{first}{}", Spaced(others)),
+        None => println!(rt; ""),
     }
 }
 

@@ -14,7 +14,7 @@ use Rattle.kernel.specs.Goals.{up}
 use Rattle.kernel.specs.Labels.{all_goals, first_label, raised}
 use Rattle.kernel.specs.Parts.{free_move, step_free}
 use Rattle.kernel.specs.Kernel.{hind, onward}
-use Rattle.kernel.proofs.Both.{and_left}
+use Rattle.kernel.proofs.Both.{and_left, and_right, and_both}
 use Rattle.kernel.proofs.OfTask.{first_label_is, raised_is}
 use Rattle.kernel.proofs.OfSheet.{step_free_meant}
 use Rattle.bars.specs.Padded.{pad_of}
@@ -23,8 +23,9 @@ use Rattle.layers.specs.Raise.{GoalsAt}
 use Rattle.std.specs.Option.{option_map}
 use Rattle.bars.specs.declared.Way.{Way}
 use Rattle.bars.specs.declared.Way.TheVariants.{Above, Left, Same, Right, Below}
-use Rattle.bars.specs.Ways.{number_of, number_if, all_ways}
-use Rattle.trace.specs.Along.{Visited, FirstWay}
+use Rattle.bars.specs.Ways.{number_of, number_if, all_ways, opens_by}
+use Rattle.bars.proofs.Gates.{all_open}
+use Rattle.trace.specs.Along.{View, way_on, leads_on, Visited, FirstWay}
 
 -- a label is raised as far as the goals in front are the place
 up_run : (gs : List ℕ) (v k r : ℕ) → k ≤ r → r ≤ length gs → ((m : ℕ) → k ≤ m → m < r → get_or gs m 0 ≡ v) → (r < length gs → get_or gs r 0 ≢ v) → r ≡ up v gs k
@@ -106,6 +107,14 @@ first_found ok r same = rw (itself r ∙ same) (go0 (ok 0) refl)
         → Found (number_if (cond b (Some Above) (cond (ok 1) (Some Left) (cond (ok 2) (Some Same) (cond (ok 3) (Some Right) (cond (ok 4) (Some Below) None))))))
     go0 true e = at 0 (omega arith) (λ y b. absurd (omega arith)) (λ l. e)
     go0 false e = go1 (below1 e) (ok 1) refl
+
+-- where the place is no lane, the first way that leads on is one by which it may be left
+pub first_open : (l : View) (r : ℕ) → get_or l.mask l.p 0 ≡ 255 → FirstWay (way_on l) r → FirstWay (leads_on l) r
+first_open l r e f = record {
+  within = f.within;
+  before = λ y b h. f.before y b (and_right (opens_by (get_or l.mask l.p 0) y) (way_on l y) h);
+  passes = λ b. and_both (opens_by (get_or l.mask l.p 0) r) (way_on l r) (rw e (all_open r b)) (f.passes b);
+}
 
 pub from_part : (l : List ℕ) (k : ℕ) → take (length l - k) (drop k l) ≡ drop k l
 from_part l k = take_all (length l - k) (drop k l) (omega (arith, length-drop k l))

@@ -74,11 +74,29 @@ impl<'a> Look<'a> {
         way.opens(self.kept.course.mask[self.p]) && self.way_on(way)
     }
 
-    // The first such way.
-    fn first(&self) -> Option<Way>
+    // The first way that leads on, by whichever way the place may be left.
+    fn first_way(&self) -> Option<Way>
+        ensures { FirstWay (way_on (view self.now.kept.now self.now.t self.now.u self.now.p self.now.at self.now.k)) (number_if result) }
+    {
+        Way::ALL.iter().copied().find(|way| self.way_on(*way))
+    }
+
+    // The same from a lane, which may be left by its own way alone.
+    fn first_from_lane(&self) -> Option<Way>
         ensures { FirstWay (leads_on (view self.now.kept.now self.now.t self.now.u self.now.p self.now.at self.now.k)) (number_if result) }
     {
         Way::ALL.iter().copied().find(|way| self.leads_on(*way))
+    }
+
+    // The first way that leads on and by which the place may be left. A place that is no lane may be left by every way.
+    fn first(&self) -> Option<Way>
+        ensures { FirstWay (leads_on (view self.now.kept.now self.now.t self.now.u self.now.p self.now.at self.now.k)) (number_if result) }
+    {
+        if self.kept.course.mask[self.p] == 255 {
+            self.first_way()
+        } else {
+            self.first_from_lane()
+        }
     }
 }
 

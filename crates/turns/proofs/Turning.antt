@@ -73,7 +73,7 @@ abbrev pub St : Type 0
 St = State (List ℕ) Constraint
 
 -- no node is open
-turn_nothing : (d : Sheet) (work : List ℕ) (made latest k : ℕ) (st : St) → Turning d work made latest k st → Cheapest d d.limit work made None
+pub turn_nothing : (d : Sheet) (work : List ℕ) (made latest k : ℕ) (st : St) → Turning d work made latest k st → Cheapest d d.limit work made None
     → turn (problem d) d.limit cheapest st ≡ done (no_plan made)
 turn_nothing d work made latest k st (held, inv) e = rw (← held.opened, e, held.number)
 

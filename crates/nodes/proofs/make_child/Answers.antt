@@ -1,12 +1,6 @@
--- The parent's record with a link, a constraint and a path of its own, and then the key. Assumes nothing.
-use Rattle.std.proofs.Common.{◌∙◌, arith}
-use Rattle.deck.specs.Planner.{bound_by}
-use Rattle.nodes.proofs.Makes.{child_made}
+-- The child's carrier is the one that the constraint binds. Assumes nothing.
+use Rattle.std.proofs.Common.{arith}
 use Rattle.nodes.proofs.make_child.Goals as goal
 
 pub returns : goal.returns
-returns c = λ d ew eh g.
-    let a = c.args in
-    child_made d a.limit a.work.now c.copy_record.new.work c.set_origin.new.work c.put_path.new.work _ a.made a.n (bound_by a.constraint) a.constraint a.finish a.path.now
-    a.w a.last ew eh (omega arith) (omega arith) (omega arith) (omega arith) c.requires.n_lt_made.3 (c.put_path.auto.work ∙ c.set_origin.auto.work ∙ c.copy_record.auto.work)
-    c.copy_record.ensures c.set_origin.ensures (rw c.bound_by.ensures at c.put_path.ensures) c.open_node.ensures g
+returns c = λ d ew eh g. c.make_child_of.ensures d ew eh (rw c.bound_by.ensures g)

@@ -3,7 +3,7 @@ use Rattle.std.proofs.Common.{ap, ◌∙◌}
 use Rattle.bars.specs.Bars.{place_slot, ours_at}
 use Rattle.bars.specs.Rest.{rest_of}
 use Rattle.bars.proofs.Records.{ours_on}
-use Rattle.bars.proofs.Slots.{clearing_begins, first_on, one_cleared, none_cleared, all_cleared, no_slot}
+use Rattle.bars.proofs.Slots.{clearing_begins, first_on, one_cleared, all_cleared}
 use Rattle.bars.proofs.Chains.clear.Goals as goal
 
 pub loop-bar-init : goal.loop-bar-init
@@ -15,14 +15,9 @@ loop-bar-init c =
 pub place_slot-requires : goal.place_slot-requires
 place_slot-requires c = let a = c.args in first_on 1156 (place_slot a.size.width) a.size.width c.loop-bar.invariant c.in-Some.ensures.steps
 
-pub loop-bar-preserved-in-Some-place_slot : goal.loop-bar-preserved-in-Some-place_slot
-loop-bar-preserved-in-Some-place_slot c =
-    let a = c.args in one_cleared 1156 (place_slot a.size.width) a.size.width c.loop-bar.invariant c.in-Some.ensures.steps c.in-Some-place_slot.ensures.0
-
 pub loop-bar-preserved : goal.loop-bar-preserved
 loop-bar-preserved c =
-    let a = c.args in
-    none_cleared 1156 (place_slot a.size.width) a.size.width c.loop-bar.invariant c.in-Some.ensures.steps (no_slot c.place_slot.ensures c.in_default.not-Some)
+    let a = c.args in one_cleared 1156 (place_slot a.size.width) a.size.width c.loop-bar.invariant c.in-Some.ensures.steps c.place_slot.ensures.0
 
 pub returns : goal.returns
 returns c =

@@ -1,15 +1,10 @@
--- `Look::first` meets its contract: the ways are asked one after the other. Assumes nothing.
-use Rattle.std.proofs.Common.{rules}
-use Rattle.std.proofs.lemmas.Iterator.{YieldsList-from_slice}
-use Rattle.std.proofs.lemmas.Iterator.Consumers.{YieldsList-from_copied}
-use Rattle.std.proofs.lemmas.Iterator.Search.{find_from_yields_List}
-use Rattle.bars.specs.Ways.{number_of, all_ways}
-use Rattle.trace.specs.Along.{view, leads_on}
-use Rattle.trace.proofs.Looking.{first_found}
+-- `Look::first` meets its contract: a place that is no lane may be left by every way. Assumes nothing.
+use Rattle.std.proofs.Common.{arith}
+use Rattle.trace.specs.Along.{view}
+use Rattle.trace.proofs.Looking.{first_open}
 use Rattle.trace.proofs.Look.first.Goals as goal
 
-pub returns : goal.returns
-returns c =
+pub returns-then-self : goal.returns-then-self
+returns-then-self c =
     let s = c.args.self.now in
-    let ok = leads_on (view s.kept.now s.t s.u s.p s.at s.k) in
-    first_found ok _ (find_from_yields_List (λ x. ok (number_of x)) c.find.new.self _ _ c.find.ensures.ran (YieldsList-from_copied (YieldsList-from_slice all_ways (cc))) (λ x b q g. search rules))
+    first_open (view s.kept.now s.t s.u s.p s.at s.k) _ (omega (arith, c.if-self.true)) c.first_way.ensures

@@ -1,9 +1,0 @@
--- `fill_doors` meets its contract: the ways passed have their bytes. Assumes nothing.
-use Rattle.std.proofs.Common.{◌≤◌}
-use Rattle.bars.specs.Padded.{row_of, end_of}
-use Rattle.bars.specs.Ways.{is_back}
-use Rattle.layers.specs.Step.{DoorsTo}
-use Rattle.layers.proofs.fill_doors.Given as goal
-
-abbrev pub invariant-loop-way : goal.invariant-loop-way
-invariant-loop-way l = (l.way-index ≤ 5) × DoorsTo l.way-index l.mask (row_of l.size.width) (end_of l.size.width l.size.height) (is_back l.direction) l.doors
